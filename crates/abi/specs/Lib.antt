@@ -1,0 +1,4 @@
+pub mod Address
+pub mod Shutdown
+pub mod Header
+pub mod Size

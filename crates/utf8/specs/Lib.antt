@@ -1,0 +1,3 @@
+pub mod Rfc3629
+pub mod Syntax
+pub mod Steps
