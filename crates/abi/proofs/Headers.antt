@@ -1,10 +1,11 @@
 -- The returns of `scm_rights_count`, of the message header's functions and of `ShutdownHow`, in the order of their tests.
-use mathlib.Core.Path.{_≡_}
-use mathlib.Core.Bool.{true}
+use mathlib.Core.Path.{_≡_, refl}
+use mathlib.Core.Bool.{Bool, true, false, cond, not}
 use mathlib.Core.List.{List}
 use Prim.Native.Nat.{ℕ, _+_, _-_, _/_, _%_, _≤_, _<_}
 use native.Mathlib.Omega.{arith}
-use borrow.Author.Tests.{eq-eqb, ne-eqb, lt-ltb, le-ltb}
+use borrow.Author.Tests.{eq-eqb, ne-eqb, lt-ltb, le-ltb, ltb-false, eqb-true, not-false}
+use lib.Dec.{eqb, ltb}
 use lib.IntN.{ℤ}
 use lib.ListN.{length}
 use mir.Syntax.{w32}
@@ -119,3 +120,38 @@ module _ (z : ℤ) (s : SFits w32 z) where
       pub how-other : (ofZ w32 z ≡ 2 → ⊥) → How.Refused EINVAL ≡ howOf z
       unfolding howOf
       how-other e = rw (equals-no z 0 p, equals-no z 1 q, equals-no z 2 e)
+
+-- ── What a count of descriptors says of its header ──
+
+pub record Counted (h : CmsgHdr) (n k : ℕ) : Type 0 where
+  pub level : equals (h .«cmsg_level») 1 ≡ true
+  pub type : equals (h .«cmsg_type») 1 ≡ true
+  pub fits : h .«cmsg_len» ≤ n
+  pub has : 16 ≤ h .«cmsg_len»
+  pub whole : (h .«cmsg_len» - 16) % 4 ≡ 0
+  pub is : k ≡ (h .«cmsg_len» - 16) / 4
+
+past : (k : ℕ) (b : Bool) (x : Count) → Count.Of k ≡ cond b Count.None x → (b ≡ false) × (Count.Of k ≡ x)
+past k true x p = absurd (let z : _≡_ {A = ℕ} 0 1 = cc in omega arith)
+past k false x p = (refl, p)
+
+last : (k m : ℕ) (b : Bool) → Count.Of k ≡ cond b (Count.Of m) Count.None → (b ≡ true) × (k ≡ m)
+last k m true p = (refl, cc)
+last k m false p = absurd (let z : _≡_ {A = ℕ} 0 1 = cc in omega arith)
+
+pub count-says : (h : CmsgHdr) (n k : ℕ) → Count.Of k ≡ rightsCountOf h n → Counted h n k
+unfolding rightsCountOf
+count-says h n k p =
+    let a = past k (not (equals (h .«cmsg_level») 1)) _ p in
+    let b = past k (not (equals (h .«cmsg_type») 1)) _ (a .1) in
+    let c = past k (ltb n (h .«cmsg_len»)) _ (b .1) in
+    let d = past k (ltb (h .«cmsg_len») 16) _ (c .1) in
+    let e = last k ((h .«cmsg_len» - 16) / 4) (eqb ((h .«cmsg_len» - 16) % 4) 0) (d .1) in
+    record {
+      level = not-false _ (a .0);
+      type = not-false _ (b .0);
+      fits = ltb-false n (h .«cmsg_len») (c .0);
+      has = ltb-false (h .«cmsg_len») 16 (d .0);
+      whole = eqb-true _ 0 (e .0);
+      is = e .1;
+    }

@@ -8,8 +8,8 @@ use native.Mathlib.Numerals.{add-one, unary-clauses}
 use lib.Arith.{mod-mul}
 use lib.Dec.{lit<}
 use lib.IntN.{ℤ}
-use lib.ListN.{length, getD, set, length-set}
-use lib.Seq.{sets, length-sets, getD-set-same, getD-set-other}
+use lib.ListN.{length, getD, take, drop, set, length-set}
+use lib.Seq.{sets, drop-cons, getD-append-add, getD-take, getD-drop, getD-set-same, getD-set-other}
 use mir.Syntax.{w32}
 use mir.Val.{toZ, ofZ, SFits}
 use mir.ValLaws.{toZ-ofZ, ofZ-fits}
@@ -99,3 +99,56 @@ back (suc k) v l p f h =
 -- a signed number too
 pub back-signed : (z : ℤ) (l : List ℕ) (p : ℕ) → SFits w32 z → p + 4 ≤ length l → toZ w32 (le 4 (sets l p (bytes 4 (ofZ w32 z))) p) ≡ z
 back-signed z l p s h = ap (toZ w32) (back 4 (ofZ w32 z) l p (ofZ-fits w32 z s .fits) h) ∙ toZ-ofZ w32 z s
+
+-- ── A number in a part ──
+
+pub le-part : (k : ℕ) (l : List ℕ) (a m p : ℕ) → p + k ≤ m → le k (take m (drop a l)) p ≡ le k l (a + p)
+unfolding le
+le-part zero l a m p h = refl
+le-part (suc k) l a m p h =
+    let e : a + (p + 1) ≡ a + p + 1 = omega arith in
+    rw (getD-take m (drop a l) p 0 (omega arith), getD-drop a l p 0, le-part k l a m (p + 1) (omega arith), e)
+
+-- ── Bytes that are bytes ──
+
+-- each number of the list is below 256
+abbrev pub AreBytes : List ℕ → Type 0
+AreBytes l = (i : ℕ) → getD l i 0 < 256
+
+pub le-fits : (k : ℕ) (l : List ℕ) (p : ℕ) → AreBytes l → le k l p < 256 ^ k
+unfolding le
+le-fits zero l p b = omega arith
+le-fits (suc k) l p b = let h = le-fits k l (p + 1) b in let f = b p in rw pow-succ' (omega arith)
+
+-- a number's bytes are those that it was read from
+pub bytes-le : (k : ℕ) (l : List ℕ) (p : ℕ) → AreBytes l → p + k ≤ length l → bytes k (le k l p) ≡ take k (drop p l)
+unfolding le bytes
+bytes-le zero l p b h = refl
+bytes-le (suc k) l p b h =
+    let f = b p in
+    let low : (getD l p 0 + 256 * le k l (p + 1)) % 256 ≡ getD l p 0 = omega arith in
+    let high : (getD l p 0 + 256 * le k l (p + 1)) / 256 ≡ le k l (p + 1) = omega arith in
+    rw (low, high, bytes-le k l (p + 1) b (omega arith), drop-cons l p 0 (omega arith), add-one p)
+
+-- ── A number in a list that is put together ──
+
+pub le-shift : (k : ℕ) (xs l : List ℕ) (p : ℕ) → le k (xs ++ l) (length xs + p) ≡ le k l p
+unfolding le
+le-shift zero xs l p = refl
+le-shift (suc k) xs l p =
+    let e : length xs + p + 1 ≡ length xs + (p + 1) = omega arith in
+    rw (getD-append-add xs l p 0, e, le-shift k xs l (p + 1))
+
+front : (k v : ℕ) (l : List ℕ) → v < 256 ^ k → le k (bytes k v ++ l) 0 ≡ v
+unfolding le bytes
+front zero v l h = omega arith
+front (suc k) v l h =
+    let n : v < 256 * 256 ^ k = rw pow-succ' at h in
+    let rest : le k ((v % 256) ∷ (bytes k (v / 256) ++ l)) 1 ≡ v / 256 = le-shift k ((v % 256) ∷ []) (bytes k (v / 256) ++ l) 0 ∙ front k (v / 256) l (omega arith) in
+    rw rest (omega arith)
+
+-- k bytes of v behind xs
+pub le-at : (k v : ℕ) (xs l : List ℕ) (p : ℕ) → v < 256 ^ k → length xs ≡ p → le k (xs ++ (bytes k v ++ l)) p ≡ v
+le-at k v xs l p h e =
+    let z : p ≡ length xs + 0 = omega arith in
+    ap (le k (xs ++ (bytes k v ++ l))) z ∙ le-shift k xs (bytes k v ++ l) 0 ∙ front k v l h

@@ -32,8 +32,30 @@ fn path_line(path: &[u8]) {
     say(b"\n");
 }
 
+// A control buffer of 24 bytes with a descriptor in it, whose header says the length n.
+fn control_line(n: u8) {
+    let mut control = [0u8; 24];
+    control[0] = n;
+    control[8] = 1;
+    control[12] = 1;
+    control[16] = 7;
+    let mut fds = [-1; 2];
+    say(b"control of 24 bytes, header's length ");
+    say_byte(n);
+    let answer = syscall::parse_scm_rights(&control, &mut fds);
+    say(b": refusal ");
+    say_number(answer.number() as u64);
+    say(b", descriptors ");
+    say_number(answer.value());
+    say(b"\n");
+}
+
 fn main() {
     let path = [b'a'; 108];
     path_line(&path[..107]);
     path_line(&path[..108]);
+    control_line(15);
+    control_line(16);
+    control_line(17);
+    control_line(20);
 }

@@ -75,6 +75,15 @@ impl Errno {
     }
 }
 
+impl Descriptor {
+    // The one place where a descriptor becomes a plain number.
+    pub fn number(self) -> i32
+        ensures { λ r. ⌜ r ≡ self .0 ⌝ }
+    {
+        self.0
+    }
+}
+
 impl Verdict {
     // "An accepted call without a value answers 0."
     pub fn number(self) -> u32
