@@ -1,0 +1,12 @@
+pub mod Model
+pub mod Frame
+pub mod Walk
+pub mod Wf
+pub mod WfRun
+pub mod Calm
+pub mod Each
+pub mod Wake
+pub mod InboxOk
+pub mod Ends
+pub mod Queues
+pub mod QueuesRun

@@ -1,0 +1,9 @@
+pub mod Table
+pub mod Inbox
+pub mod Outcome
+pub mod Connecting
+pub mod Moving
+pub mod Ending
+pub mod Run
+pub mod WellFormed
+pub mod Demand
