@@ -35,3 +35,9 @@ or-left false b h = refl
 pub or-right : (a b : Bool) → a || b ≡ false → b ≡ false
 or-right true b h = absurd (true≢false h)
 or-right false b h = h
+
+pub and-three : (a b c : Bool) → a && b && c ≡ true → (a ≡ true) × (b ≡ true) × (c ≡ true)
+and-three a b c h = let l = and-left (a && b) c h in (and-left a b l, and-right a b l, and-right (a && b) c h)
+
+pub and-four : (a b c d : Bool) → a && b && c && d ≡ true → (a ≡ true) × (b ≡ true) × (c ≡ true) × (d ≡ true)
+and-four a b c d h = let l = and-three a b c (and-left (a && b && c) d h) in (l .0, l .1, l .2, and-right (a && b && c) d h)

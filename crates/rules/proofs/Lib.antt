@@ -10,3 +10,9 @@ pub mod InboxOk
 pub mod Ends
 pub mod Queues
 pub mod QueuesRun
+pub mod Shape
+pub mod Counting
+pub mod Sized
+pub mod Formed
+pub mod YesNo
+pub mod Unreachable

@@ -9,6 +9,7 @@ use mathlib.Core.List.{List, [], _∷_, _++_, List·Memᴰ, List·Memᴰ·head, 
 use lib.ListN.{length}
 use borrow.Author.Tests.{not-false}
 use Rattle.laws.proofs.Tests.{and-left, and-right}
+use Rattle.rules.specs.WellFormed.{isConnected}
 use Rattle.rules.proofs.Model.{Table, Slot, State, Inbox, Call, Outcome, vacant, fresh, after, refuse, refuseIf, answer, slotOf, handle, handleAt, at, put, isOpen, isLive, stateOf, become, give, enter, leave, queued, closeAll, holder, noSlot, freeSlot, newHandle, nothing}
 use Rattle.rules.proofs.Frame.{cons-nil}
 use Rattle.rules.proofs.Calm.{Fewer, fewer-closeAll}
@@ -22,14 +23,8 @@ abbrev pub Once : List ℕ → Type 0
 Once [] = Unit {0}
 Once (x ∷ xs) = (List·Memᴰ x xs → ⊥) × Once xs
 
-unfoldable pub isConn : State → Bool
-isConn State.Unbound = false
-isConn (State.Bound m) = false
-isConn (State.Listening m b q) = false
-isConn (State.Connected p i x y) = true
-
-conn-none : (σ : State) → isConn σ ≡ true → queued σ ≡ []
-unfolding isConn queued
+conn-none : (σ : State) → isConnected σ ≡ true → queued σ ≡ []
+unfolding isConnected queued
 conn-none State.Unbound e = refl
 conn-none (State.Bound m) e = refl
 conn-none (State.Listening m b q) e = absurd (false≢true e)
@@ -39,7 +34,7 @@ conn-none (State.Connected p i x y) e = refl
 pub record Pending (t : Table) (s : ℕ) : Type 0 where
   pub here : isOpen t s ≡ true
   pub kept : givenOf t s ≡ false
-  pub conn : isConn (stateOf t s) ≡ true
+  pub conn : isConnected (stateOf t s) ≡ true
 
 pub record Owner (t : Table) (s : ℕ) : Type 0 where
   pub by : ℕ
@@ -58,7 +53,7 @@ pub record Even (t u : Table) : Type 0 where
   pub opens : (g : ℕ) → isOpen u g ≡ isOpen t g
   pub given : (g : ℕ) → isOpen t g ≡ true → givenOf u g ≡ givenOf t g
   pub queue : (g : ℕ) → isOpen t g ≡ true → queued (stateOf u g) ≡ queued (stateOf t g)
-  pub conns : (g : ℕ) → isOpen t g ≡ true → isConn (stateOf t g) ≡ true → isConn (stateOf u g) ≡ true
+  pub conns : (g : ℕ) → isOpen t g ≡ true → isConnected (stateOf t g) ≡ true → isConnected (stateOf u g) ≡ true
 
 pub queues-even : {t u : Table} → Even t u → Queues t → Queues u
 queues-even {t} {u} e q =
@@ -86,14 +81,14 @@ given-become : (t : Table) (h : ℕ) (σ : State) (g : ℕ) → givenOf (become 
 unfolding become givenOf
 given-become t h σ g = field-put (λ s. s .given) t (slotOf h) _ (slotOf g) refl
 
-pub even-become : (t : Table) (h : ℕ) (σ : State) → queued σ ≡ queued (stateOf t h) → (isConn (stateOf t h) ≡ true → isConn σ ≡ true) → Even t (become t h σ)
+pub even-become : (t : Table) (h : ℕ) (σ : State) → queued σ ≡ queued (stateOf t h) → (isConnected (stateOf t h) ≡ true → isConnected σ ≡ true) → Even t (become t h σ)
 unfolding become stateOf
 even-become t h σ e c =
     record {
       opens = λ g. open-become t h σ g;
       given = λ g o. given-become t h σ g;
       queue = λ g o. field-put (λ s. queued (s .state)) t (slotOf h) _ (slotOf g) e;
-      conns = λ g o z. ⊎-elim (λ k. ap isConn (k .1) ∙ c (ap (λ i. isConn (at t i .state)) (sym (k .0)) ∙ z)) (λ k. ap isConn k ∙ z) (state-become t h σ g);
+      conns = λ g o z. ⊎-elim (λ k. ap isConnected (k .1) ∙ c (ap (λ i. isConnected (at t i .state)) (sym (k .0)) ∙ z)) (λ k. ap isConnected k ∙ z) (state-become t h σ g);
     }
 
 -- ── accept: the oldest server leaves the queue and is handed out ──
@@ -153,8 +148,8 @@ module _ (t : Table) (q : Queues t) (h s : ℕ) (rest : List ℕ) (o : isOpen t 
               kept = ⊎-elim (λ z. absurd (b .1 (z .0))) (λ z. z .1 ∙ d .kept) (given-u x (d .here));
               conn =
                   ⊎-elim
-                  (λ z. absurd (cons-nil (sym was ∙ conn-none (stateOf t h) (subst (λ g. isConn (stateOf t g) ≡ true) (z .0) (d .conn)))))
-                  (λ z. ap isConn (state-give (become t h σ) s x ∙ z .1) ∙ d .conn)
+                  (λ z. absurd (cons-nil (sym was ∙ conn-none (stateOf t h) (subst (λ g. isConnected (stateOf t g) ≡ true) (z .0) (d .conn)))))
+                  (λ z. ap isConnected (state-give (become t h σ) s x ∙ z .1) ∙ d .conn)
                   (become-at t h σ x o (d .here));
             };
         owned = λ x a g.
@@ -177,8 +172,8 @@ once-snoc (y ∷ ys) x a n = (
 -- ── connect: a server enters, and the listener's queue ──
 
 module _ (t : Table) (q : Queues t) (i h l : ℕ) (fit : length (t .slots) ≤ 1024) (r : i < length (t .slots)) (v : at t i .inUse ≡ false)
-    (o : isOpen t h ≡ true) (ol : isOpen t l ≡ true) (un : queued (stateOf t h) ≡ []) (nc : isConn (stateOf t h) ≡ false) (lc : isConn (stateOf t l) ≡ false)
-    (σ₁ σ₂ σ₃ : State) (q₁ : queued σ₁ ≡ []) (c₁ : isConn σ₁ ≡ true) (q₂ : queued σ₂ ≡ []) (q₃ : queued σ₃ ≡ queued (stateOf t l) ++ handle (suc (at t i .gen)) i ∷ []) where
+    (o : isOpen t h ≡ true) (ol : isOpen t l ≡ true) (un : queued (stateOf t h) ≡ []) (nc : isConnected (stateOf t h) ≡ false) (lc : isConnected (stateOf t l) ≡ false)
+    (σ₁ σ₂ σ₃ : State) (q₁ : queued σ₁ ≡ []) (c₁ : isConnected σ₁ ≡ true) (q₂ : queued σ₂ ≡ []) (q₃ : queued σ₃ ≡ queued (stateOf t l) ++ handle (suc (at t i .gen)) i ∷ []) where
   abbrev s′ : ℕ
   s′ = handle (suc (at t i .gen)) i
 
@@ -264,10 +259,10 @@ module _ (t : Table) (q : Queues t) (i h l : ℕ) (fit : length (t .slots) ≤ 1
         here = up x (to-1 x (p .here));
         kept = given-v x (p .here) ∙ p .kept;
         conn =
-            ap isConn
+            ap isConnected
             (state-v x (p .here)
-            (λ e. false≢true (sym lc ∙ ap (λ k. isConn (stateOf t k)) (sym e) ∙ p .conn))
-            (λ e. false≢true (sym nc ∙ ap (λ k. isConn (stateOf t k)) (sym e) ∙ p .conn)))
+            (λ e. false≢true (sym lc ∙ ap (λ k. isConnected (stateOf t k)) (sym e) ∙ p .conn))
+            (λ e. false≢true (sym nc ∙ ap (λ k. isConnected (stateOf t k)) (sym e) ∙ p .conn)))
             ∙ p .conn;
       }
 
@@ -276,7 +271,7 @@ module _ (t : Table) (q : Queues t) (i h l : ℕ) (fit : length (t .slots) ≤ 1
       record {
         here = up s′ (enter-new t i false σ₁ fit r .0);
         kept = given-become t₂ l σ₃ s′ ∙ given-become t₁ h σ₂ s′ ∙ given-new t i false σ₁ fit r;
-        conn = ap isConn state-new ∙ c₁;
+        conn = ap isConnected state-new ∙ c₁;
       }
 
   once-v : (g : ℕ) → isOpen v′ g ≡ true → Once (queued (stateOf v′ g))
@@ -391,7 +386,7 @@ module _ (t : Table) (q : Queues t) (h : ℕ) (o : isOpen t h ≡ true) (gv : gi
             (λ e. false≢true (sym (p .kept) ∙ ap (givenOf t) e ∙ gv))
             (λ k′. out-z g a (List·Memᴰ·head (q .one g h x (old-z g a) o (in-z x g a m) k′)))
             (List·Memᴰ·cases-cons k) in
-            record { here = open-z x (p .here) n; kept = given-z x (p .here) n ∙ p .kept; conn = ap isConn (state-z x (p .here) n) ∙ p .conn };
+            record { here = open-z x (p .here) n; kept = given-z x (p .here) n ∙ p .kept; conn = ap isConnected (state-z x (p .here) n) ∙ p .conn };
         owned = λ x a k.
             let w = q .owned x (old-z x a) (sym (given-z x (old-z x a) (out-z x a)) ∙ k) in
             let n : List·Memᴰ (w .by) hs → ⊥ = λ m.
@@ -426,7 +421,7 @@ module _ (t : Table) (q : Queues t) (i : ℕ) (fit : length (t .slots) ≤ 1024)
         entries = λ g x a m.
             let b = in-e x g a m in
             let p = q .entries g x (b .0) (b .1) in
-            record { here = to x (p .here) .0; kept = given-enter t i true State.Unbound x v (p .here) ∙ p .kept; conn = ap isConn (to x (p .here) .1) ∙ p .conn };
+            record { here = to x (p .here) .0; kept = given-enter t i true State.Unbound x v (p .here) ∙ p .kept; conn = ap isConnected (to x (p .here) .1) ∙ p .conn };
         owned = λ x a k.
             ⊎-elim
             (λ n. absurd (true≢false (sym (ap (givenOf e′) (n .0) ∙ given-new t i true State.Unbound fit r) ∙ k)))

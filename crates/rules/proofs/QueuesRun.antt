@@ -5,13 +5,14 @@ use mathlib.Core.Bool.{Bool, true, false, cond, not, _&&_, _||_, false≢true, t
 use mathlib.Core.List.{List, [], _∷_, _++_, List·Memᴰ}
 use lib.ListN.{length, replicate}
 use Rattle.laws.proofs.Tests.{and-right, cond-both}
+use Rattle.rules.specs.WellFormed.{isConnected}
 use Rattle.rules.proofs.Model.{Table, Slot, State, Inbox, Call, Outcome, fresh, after, slotOf, at, isOpen, isLive, stateOf, become, connected, newHandle, freeSlot, drained, doShutdown, doClose, closeEnds, queued, nothing, run}
 use Rattle.rules.proofs.Frame.{live-open, givenOf}
 use Rattle.rules.proofs.Wf.{WellFormed}
 use Rattle.rules.proofs.WfRun.{kept-run, none-open, wf-fresh}
 use Rattle.rules.proofs.Walk.{Steps, walk}
 use Rattle.rules.proofs.Ends.{Ends, Inboxes, ends-run, in-run}
-use Rattle.rules.proofs.Queues.{Queues, Even, isConn, queues-even, even-become, even-then, queues-accept, queues-connect, queues-close, queues-socket}
+use Rattle.rules.proofs.Queues.{Queues, Even, queues-even, even-become, even-then, queues-accept, queues-connect, queues-close, queues-socket}
 
 live-given : (t : Table) (h : ℕ) → isLive t h ≡ true → givenOf t h ≡ true
 unfolding isLive givenOf
@@ -24,8 +25,8 @@ ends-queue a b (State.Bound m) = refl
 ends-queue a b (State.Listening m k q) = refl
 ends-queue a b (State.Connected p i x y) = refl
 
-ends-conn : (a b : Bool) (σ : State) → isConn σ ≡ true → isConn (closeEnds a b σ) ≡ true
-unfolding closeEnds isConn
+ends-conn : (a b : Bool) (σ : State) → isConnected σ ≡ true → isConnected (closeEnds a b σ) ≡ true
+unfolding closeEnds isConnected
 ends-conn a b State.Unbound e = e
 ends-conn a b (State.Bound m) e = e
 ends-conn a b (State.Listening m k q) e = e
@@ -35,7 +36,7 @@ abbrev QN : Outcome → Type 0
 QN o = Queues (o .next)
 
 steps : (t : Table) → length (t .slots) ≤ 1024 → Queues t → Steps t QN
-unfolding queued isConn drained doShutdown doClose connected newHandle
+unfolding queued isConnected drained doShutdown doClose connected newHandle
 steps t fit q =
     record {
       refused = λ n. q;

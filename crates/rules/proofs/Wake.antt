@@ -17,6 +17,7 @@ use Rattle.rules.proofs.Calm.{End, Look, Fact, FactL, FactC, FactE, Tol
 use Rattle.rules.proofs.Each.{Good, calm-run}
 use Rattle.rules.proofs.Frame.{found-used, unbound-not-listening, cons-nil, none-some, some-inj}
 use Rattle.rules.proofs.Wf.{peerOf, nameOf, WellFormed, has-name, name-has, found}
+use Rattle.rules.proofs.Formed.{few}
 use Rattle.rules.proofs.WfRun.{kept-run, wf-fresh, wf-after}
 use Rattle.rules.specs.Demand.{Blocks, caller, ifConnect, sleepsOn, Still, NoLostWake, Asleep, Demand3}
 
@@ -374,10 +375,6 @@ asleep-last : (t : Table) (x : Call) (cs : List Call) → Asleep t x cs → Bloc
 unfolding after
 asleep-last t x [] a = a
 asleep-last t x (c ∷ cs) a = asleep-last (run t c .next) x cs (a .1)
-
-few : (n c : ℕ) → inRange n c ≡ true → n ≤ 1024
-unfolding inRange
-few n c r = leb-true n 1024 (and-right (leb 1 n) _ (and-left (leb 1 n && leb n 1024) _ (and-left (leb 1 n && leb n 1024 && leb 1 c) _ r)))
 
 pub demand-3 : Demand3
 demand-3 n c r before between x y a s d =

@@ -66,7 +66,7 @@ module _ (t : Table) (w : WellFormed t) where
 
 -- ── reachable tables ──
 
-vacant-all : (n i : ℕ) → getD (replicate n vacant) i vacant ≡ vacant
+pub vacant-all : (n i : ℕ) → getD (replicate n vacant) i vacant ≡ vacant
 vacant-all zero i = refl
 vacant-all (suc n) zero = refl
 vacant-all (suc n) (suc i) = vacant-all n i
