@@ -1,0 +1,53 @@
+use borrow.Author.Needs.{needs}
+use Rattle.ring.proofs.Copying.{in-one, in-two}
+use Rattle.ring.proofs.write_u32.Statement.{statement}
+use Rattle.ring.proofs.write_u32.Tie as tie
+
+add-place : tie.Need-add-place
+add-place c = search needs
+
+place-requires : tie.Need-place-requires
+place-requires c κs = search needs
+
+sub-room : tie.Need-sub-room
+sub-room c = search needs
+
+copy-u32-requires : tie.Need-copy-u32-requires
+copy-u32-requires c κs = search needs
+
+copy-u32-requires-2 : tie.Need-copy-u32-requires-2
+copy-u32-requires-2 c κs = search needs
+
+sub-copy-u32 : tie.Need-sub-copy-u32
+sub-copy-u32 c = search needs
+
+copy-u32-requires-3 : tie.Need-copy-u32-requires-3
+copy-u32-requires-3 c κs = search needs
+
+same-length : tie.Need-same-length
+same-length c = search needs
+
+returns : tie.Need-returns
+returns c = search in-one
+
+same-length-2 : tie.Need-same-length-2
+same-length-2 c = search needs
+
+returns-2 : tie.Need-returns-2
+returns-2 c = search in-two
+
+pub write-u32-spec : {M : Type 1} → statement M
+write-u32-spec =
+    tie.close
+    (tie.spec
+    add-place
+    place-requires
+    sub-room
+    copy-u32-requires
+    copy-u32-requires-2
+    sub-copy-u32
+    copy-u32-requires-3
+    same-length
+    returns
+    same-length-2
+    returns-2)
