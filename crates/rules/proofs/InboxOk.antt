@@ -4,7 +4,7 @@ use mathlib.Core.Path.{_≡_, refl, sym, ap, ap₂, _∙_, subst}
 use Prim.Native.Nat.{ℕ, zero, suc, _+_, _-_, _≤_, _<_, min}
 use native.Mathlib.Omega.{arith}
 use mathlib.Core.Bool.{Bool, true, false, cond, not, _&&_, _||_, false≢true, true≢false}
-use mathlib.Core.List.{List, [], _∷_, _++_, map}
+use mathlib.Core.List.{List, [], _∷_, _++_, map, append-nil}
 use lib.ListN.{length, take, drop, length-append, length-take, length-drop}
 use lib.Dec.{ltb, eqb}
 use borrow.Author.Tests.{eq-eqb, eqb-true, ltb-false}
@@ -40,10 +40,6 @@ nil-length : (xs : List ℕ) → isNil xs ≡ false → 1 ≤ length xs
 unfolding isNil
 nil-length [] e = absurd (true≢false e)
 nil-length (x ∷ xs) e = omega arith
-
-append-nil : (ms : List Group) → ms ++ [] ≡ ms
-append-nil [] = refl
-append-nil (m ∷ ms) = ap (λ r. m ∷ r) (append-nil ms)
 
 pub append-ok : (c : ℕ) (b : Inbox) (new its : List ℕ) → length (b .bytes) < c → (not (isNil its) && isNil new) ≡ false
     → (not (isNil its) && ltb 256 (length (allItems (b .groups)) + length its)) ≡ false → InboxOk c b → InboxOk c (append b (take (c - length (b .bytes)) new) its)
