@@ -16,3 +16,10 @@ pub mod Sized
 pub mod Formed
 pub mod YesNo
 pub mod Unreachable
+pub mod Lines
+pub mod Clients
+pub mod Closing
+pub mod Moves
+pub mod Levels
+pub mod Notifies
+pub mod ShutOut
