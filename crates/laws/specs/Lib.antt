@@ -1,1 +1,2 @@
 pub mod All
+pub mod Tab

@@ -91,7 +91,7 @@ pub fn fill_u64(ring: &mut [u64], head: usize, n: usize, v: u64, k: usize)
 }
 
 // One straight run: `n` of `src` from `from` on to `dst` from `at` on.
-fn copy_u8(dst: &mut [u8], at: usize, src: &[u8], from: usize, n: usize)
+pub fn copy_u8(dst: &mut [u8], at: usize, src: &[u8], from: usize, n: usize)
     requires { ⌜ (at + n ≤ length (now dst)) × (from + n ≤ length (now src)) ⌝ }
     ensures { λ _. ⌜ now (dst .exit) ≡ paste (now (dst .entry)) at (drop from (now (src .entry))) n ⌝ }
 {

@@ -1,0 +1,149 @@
+-- What the searches and the tests leave at each return.
+use mathlib.Core.Path.{_≡_, refl, sym, ap, ap₂, _∙_}
+use mathlib.Core.Logic.{_≢_, _⊎_, inl, inr}
+use mathlib.Core.Bool.{Bool, true, false, cond, not, _&&_, false≢true}
+use mathlib.Core.List.{List, [], _∷_}
+use Prim.Native.Nat.{ℕ, zero, suc, _+_, _-_, _*_, _/_, _%_, _≤_, _<_, min}
+use native.Mathlib.Nat.{not-suc-le-zero}
+use native.Mathlib.Decide.{decLt, ℕ-discrete as decEq}
+use native.Mathlib.Omega.{arith}
+use lib.Dec.{eqb, ltb}
+use lib.ListN.{length, take, drop}
+use lib.Seq.{take-take, take-all}
+use borrow.Author.Tests.{lt-ltb, le-ltb, ltb-true, eq-eqb, ne-eqb, eqb-true, not-true, not-false}
+use Rattle.laws.proofs.Tests.{less-or, and-left, and-right, and-three}
+use Rattle.rules.specs.Table.{slotOf, handle, same}
+use Rattle.rules.proofs.Wf.{same-refl}
+use Rattle.storage.specs.Layout.{part}
+use Rattle.storage.specs.Cells.{cellAt, stateOf}
+use Rattle.storage.specs.Finding.{least, occupied, waiting, openIn, liveIn, freeCell, named, nameLength, holdsCell}
+use Rattle.storage.specs.declared.Cell.{Cell}
+use Rattle.storage.specs.declared.State.{State}
+use Rattle.storage.specs.declared.State.the-variants.{Connected}
+use Rattle.storage.specs.declared.Connection.{Connection}
+use Rattle.storage.specs.declared.Slot.{Slot}
+use Rattle.storage.proofs.Pasted.{length-part}
+
+-- ── The least that passes ──
+
+pub least-at : (n : ℕ) (p : ℕ → Bool) (i : ℕ) → i < n → p i ≡ true → ((j : ℕ) → j < i → p j ≡ false) → least n p ≡ i
+unfolding least
+least-at zero p i h e f = absurd (not-suc-le-zero h)
+least-at (suc n) p zero h e f = rw e
+least-at (suc n) p (suc i) h e f = rw (f zero (omega arith)) (ap suc (least-at n (λ k. p (suc k)) i (omega arith) e (λ j l. f (suc j) (omega arith))))
+
+pub least-none : (n : ℕ) (p : ℕ → Bool) → ((j : ℕ) → j < n → p j ≡ false) → least n p ≡ n
+unfolding least
+least-none zero p f = refl
+least-none (suc n) p f = rw (f zero (omega arith)) (ap suc (least-none n (λ k. p (suc k)) (λ j l. f (suc j) (omega arith))))
+
+-- a search that has come to i: none before it
+pub record NoneBefore (p : ℕ → Bool) (i : ℕ) : Type 0 where
+  pub none : (j : ℕ) → j < i → p j ≡ false
+
+pub none-yet : (p : ℕ → Bool) → NoneBefore p 0
+none-yet p = record { none = λ j h. absurd (not-suc-le-zero h) }
+
+pub none-here : (p : ℕ → Bool) (i : ℕ) → NoneBefore p i → p i ≡ false → NoneBefore p (i + 1)
+none-here p i b e = record { none = λ j h. go j h (decLt j i) }
+  where
+    go : (j : ℕ) → j < i + 1 → Dec (j < i) → p j ≡ false
+    go j h (yes l) = b .none j l
+    go j h (no l) = let z : j ≡ i = omega arith in ap p z ∙ e
+
+pub found-at : (n : ℕ) (p : ℕ → Bool) (i : ℕ) (r : Bool) → i < n → NoneBefore p i → r ≡ p i → r ≡ true → i ≡ least n p
+found-at n p i r h b e t = sym (least-at n p i h (sym e ∙ t) (b .none))
+
+pub found-none : (n : ℕ) (p : ℕ → Bool) (i : ℕ) → n ≤ i → i ≤ n → NoneBefore p i → n ≡ least n p
+found-none n p i h k b = sym (least-none n p (λ j l. b .none j (omega arith)))
+
+-- ── Handles ──
+
+gen-slot : (g h : ℕ) → eqb (handle g (slotOf h)) h ≡ eqb g (h / 65536)
+gen-slot g h =
+    elim (decEq g (h / 65536)) [
+      | yes e ↦ let z : g * 65536 + h % 65536 ≡ h = omega arith in eq-eqb (handle g (slotOf h)) h z ∙ sym (eq-eqb g (h / 65536) e)
+      | no ne ↦ ne-eqb (handle g (slotOf h)) h (λ z. ne (omega arith)) ∙ sym (ne-eqb g (h / 65536) ne)
+    ]
+
+module _ (n : ℕ) (w : List ℕ) (h i : ℕ) (ei : i ≡ slotOf h) where
+  pub open-out : n ≤ i → false ≡ openIn n w h
+  unfolding openIn
+  open-out l = rw (le-ltb (slotOf h) n (omega arith))
+
+  pub open-stale : (s : Slot) → s ≡ record { generation = cellAt w i .generation; state = stateOf (cellAt w i) } → i < n → (s .generation ≡ h / 65536 → ⊥) → false ≡ openIn n w h
+  unfolding openIn
+  open-stale s es l ne =
+      let g : s .generation ≡ cellAt w (slotOf h) .generation = ap (λ (x : Slot). x .generation) es ∙ ap (λ (x : ℕ). cellAt w x .generation) ei in
+      rw (lt-ltb (slotOf h) n (omega arith), gen-slot (cellAt w (slotOf h) .generation) h, ne-eqb (cellAt w (slotOf h) .generation) (h / 65536) (λ z. ne (g ∙ z)))
+
+  pub open-by-state : (s : Slot) (r : Bool) → s ≡ record { generation = cellAt w i .generation; state = stateOf (cellAt w i) } → i < n → s .generation ≡ h / 65536 → r ≡ occupied (s .state) → r ≡ openIn n w h
+  unfolding openIn
+  open-by-state s r es l eg er =
+      let g : cellAt w (slotOf h) .generation ≡ h / 65536 = sym (ap (λ (x : ℕ). cellAt w x .generation) ei) ∙ sym (ap (λ (x : Slot). x .generation) es) ∙ eg in
+      er ∙ ap occupied (ap (λ (x : Slot). x .state) es ∙ ap (λ (x : ℕ). stateOf (cellAt w x)) ei)
+      ∙ rw (lt-ltb (slotOf h) n (omega arith), gen-slot (cellAt w (slotOf h) .generation) h, eq-eqb (cellAt w (slotOf h) .generation) (h / 65536) g)
+
+pub not-live : (n : ℕ) (w : List ℕ) (h : ℕ) (r : Bool) → r ≡ openIn n w h → not r ≡ true → false ≡ liveIn n w h
+unfolding liveIn
+not-live n w h r e t = rw (sym e ∙ not-true r t)
+
+pub live-by-state : (n : ℕ) (w : List ℕ) (h i : ℕ) (o : Bool) (s : Slot) (r : Bool) → o ≡ openIn n w h → not o ≡ false → i ≡ slotOf h
+    → s ≡ record { generation = cellAt w i .generation; state = stateOf (cellAt w i) } → r ≡ waiting (s .state) → not r ≡ liveIn n w h
+unfolding liveIn
+live-by-state n w h i o s r eo t ei es er =
+    ap not (er ∙ ap waiting (ap (λ (x : Slot). x .state) es ∙ ap (λ (x : ℕ). stateOf (cellAt w x)) ei)) ∙ rw (sym eo ∙ not-false o t)
+
+-- an open handle's slot is one of n
+pub open-slot : (n : ℕ) (w : List ℕ) (h : ℕ) → openIn n w h ≡ true → slotOf h < n
+unfolding openIn
+open-slot n w h e = ltb-true (slotOf h) n (and-three (ltb (slotOf h) n) _ _ e .0)
+
+-- ── Free slots ──
+
+pub not-free : (k : Cell) (σ : State) (r : Bool) → σ ≡ stateOf k → r ≡ occupied σ → r ≡ true → false ≡ freeCell k
+unfolding freeCell
+not-free k σ r es er t = rw (sym (ap occupied es) ∙ sym er ∙ t)
+
+pub free-by-generation : (k : Cell) (σ : State) (r : Bool) → σ ≡ stateOf k → r ≡ occupied σ → r ≡ false → ltb (k .generation) 4294967295 ≡ freeCell k
+unfolding freeCell
+free-by-generation k σ r es er t = rw (sym (ap occupied es) ∙ sym er ∙ t)
+
+-- ── Names ──
+
+same-true : (a b : List ℕ) → same a b ≡ true → a ≡ b
+unfolding same
+same-true [] [] e = refl
+same-true [] (y ∷ b) e = absurd (false≢true e)
+same-true (x ∷ a) [] e = absurd (false≢true e)
+same-true (x ∷ a) (y ∷ b) e = ap₂ _∷_ (eqb-true x y (and-left _ _ e)) (same-true a b (and-right (eqb x y) _ e))
+
+pub same-is : (a b : List ℕ) (r : Bool) → (r ≡ true → a ≡ b) × (a ≡ b → r ≡ true) → r ≡ same a b
+same-is a b r f = go r (same a b) refl refl
+  where
+    go : (x y : Bool) → r ≡ x → same a b ≡ y → r ≡ same a b
+    go true y e d = e ∙ sym (ap (same a) (sym (f .0 e)) ∙ same-refl a)
+    go false true e d = absurd (false≢true (sym e ∙ f .1 (same-true a b d)))
+    go false false e d = e ∙ sym d
+
+pub not-holder : (k : Cell) (room m : List ℕ) (σ : State) (r : Bool) → σ ≡ stateOf k → r ≡ named σ → not r ≡ true → false ≡ holdsCell k room m
+unfolding holdsCell
+not-holder k room m σ r es er t = rw (sym (ap named es) ∙ sym er ∙ not-true r t)
+
+pub room-take : (a z : ℕ) (l : List ℕ) → a + 255 ≤ length l → take z (part a 255 l) ≡ part a (min z 255) l
+room-take a z l h = go (less-or z 255)
+  where
+    go : (z < 255) ⊎ (255 ≤ z) → take z (part a 255 l) ≡ part a (min z 255) l
+    go (inl x) = let e : min z 255 ≡ z = omega arith in take-take z 255 (drop a l) (omega arith) ∙ ap (λ (k : ℕ). part a k l) (sym e)
+    go (inr x) = let e : min z 255 ≡ 255 = omega arith in take-all z (part a 255 l) (omega (arith, length-part a 255 l h)) ∙ ap (λ (k : ℕ). part a k l) (sym e)
+
+pub holds-by-name : (k : Cell) (b m : List ℕ) (σ : State) (r o : Bool) (z x a : ℕ) → a + 255 ≤ length b → σ ≡ stateOf k → r ≡ named σ → not r ≡ false → z ≡ nameLength σ → x ≡ min z 255
+    → (o ≡ true → part a (a + x - a) b ≡ m) × (part a (a + x - a) b ≡ m → o ≡ true) → o ≡ holdsCell k (part a 255 b) m
+unfolding holdsCell
+holds-by-name k b m σ r o z x a hb es er t ez ex f =
+    let e : a + x - a ≡ min z 255 = omega arith in
+    let p : part a (a + x - a) b ≡ take (nameLength (stateOf k)) (part a 255 b) = ap (λ (y : ℕ). part a y b) e ∙ sym (room-take a z b hb) ∙ ap (λ (y : ℕ). take y (part a 255 b)) (ez ∙ ap nameLength es) in
+    same-is (part a (a + x - a) b) m o f ∙ ap (λ (y : List ℕ). same y m) p ∙ rw (sym (ap named es) ∙ sym er ∙ not-false r t)
+
+pub waiting-is : (σ : State) (k : Connection) → σ ≡ Connected k → not (eqb (k .waits) 0) ≡ waiting σ
+waiting-is σ k e = rw e
