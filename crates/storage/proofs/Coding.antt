@@ -51,8 +51,12 @@ flag-is false = refl
 
 pub connected-is : (g : ℕ) (c : Connection) → _≡_ {A = Cell}
     (record {
-      generation = g; tag = 4; name = 0;
-      backlog = 0; head = 0; pending = 0;
+      generation = g;
+      tag = 4;
+      name = 0;
+      backlog = 0;
+      head = 0;
+      pending = 0;
       peer = c .peer .0;
       «inbox_closed» = boolByte (c .«inbox_closed»);
       «outbox_closed» = boolByte (c .«outbox_closed»);

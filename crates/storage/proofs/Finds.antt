@@ -99,6 +99,10 @@ pub open-slot : (n : ℕ) (w : List ℕ) (h : ℕ) → openIn n w h ≡ true →
 unfolding openIn
 open-slot n w h e = ltb-true (slotOf h) n (and-three (ltb (slotOf h) n) _ _ e .0)
 
+pub open-used-in : (n : ℕ) (w : List ℕ) (h : ℕ) → openIn n w h ≡ true → occupied (stateOf (cellAt w (slotOf h))) ≡ true
+unfolding openIn
+open-used-in n w h e = and-three (ltb (slotOf h) n) (eqb (handle (cellAt w (slotOf h) .generation) (slotOf h)) h) (occupied (stateOf (cellAt w (slotOf h)))) e .2
+
 -- ── Free slots ──
 
 pub not-free : (k : Cell) (σ : State) (r : Bool) → σ ≡ stateOf k → r ≡ occupied σ → r ≡ true → false ≡ freeCell k

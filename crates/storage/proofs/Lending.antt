@@ -56,10 +56,10 @@ pub pushes-at : (n c i : ℕ) (w b t buf items ps rs ts : List ℕ) (q : Inbox) 
     → length rs ≡ length (part (ringBase c i) (ringBase c i + c - ringBase c i) b)
     → length ts ≡ length (part (tokensBase i) (tokensBase i + 256 - tokensBase i) t)
     → Pushes (part (ringBase c i) (ringBase c i + c - ringBase c i) b) rs (part (placesBase n i) (placesBase n i + 256 - placesBase n i) w) ps
-      (part (tokensBase i) (tokensBase i + 256 - tokensBase i) t) ts buf items q r
+    (part (tokensBase i) (tokensBase i + 256 - tokensBase i) t) ts buf items q r
     → PushesAt n c i (lent w b t)
-      (lent (putMid (placesBase n i) (placesBase n i + 256 - placesBase n i) w ps) (putMid (ringBase c i) (ringBase c i + c - ringBase c i) b rs)
-      (putMid (tokensBase i) (tokensBase i + 256 - tokensBase i) t ts)) buf items q r
+    (lent (putMid (placesBase n i) (placesBase n i + 256 - placesBase n i) w ps) (putMid (ringBase c i) (ringBase c i + c - ringBase c i) b rs)
+    (putMid (tokensBase i) (tokensBase i + 256 - tokensBase i) t ts)) buf items q r
 pushes-at n c i w b t buf items ps rs ts q r hw hb ht lp lr lt x =
     let lp′ : length ps ≡ 256 = lp ∙ length-lent w (placesBase n i) 256 hw in
     let lr′ : length rs ≡ c = lr ∙ length-lent b (ringBase c i) c hb in

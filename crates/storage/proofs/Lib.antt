@@ -4,3 +4,5 @@ pub mod Pasted
 pub mod Framing
 pub mod Finds
 pub mod Lending
+pub mod Around
+pub mod Viewed

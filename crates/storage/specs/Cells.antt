@@ -73,17 +73,43 @@ stateOf k =
 abbrev pub plainCell : (generation tag name : ℕ) → Cell
 plainCell g t m =
     record {
-      generation = g; tag = t; name = m;
-      backlog = 0; head = 0; pending = 0;
-      peer = 0; «inbox_closed» = 0; «outbox_closed» = 0; byte = 0; «written_total» = 0; «read_total» = 0; first = 0; items = 0; waits = 0; place = 0;
+      generation = g;
+      tag = t;
+      name = m;
+      backlog = 0;
+      head = 0;
+      pending = 0;
+      peer = 0;
+      «inbox_closed» = 0;
+      «outbox_closed» = 0;
+      byte = 0;
+      «written_total» = 0;
+      «read_total» = 0;
+      first = 0;
+      items = 0;
+      waits = 0;
+      place = 0;
     }
 
 abbrev pub listeningCell : ℕ → Listener → Cell
 listeningCell g l =
     record {
-      generation = g; tag = 3; name = l .name;
-      backlog = l .backlog; head = l .head; pending = l .pending;
-      peer = 0; «inbox_closed» = 0; «outbox_closed» = 0; byte = 0; «written_total» = 0; «read_total» = 0; first = 0; items = 0; waits = 0; place = 0;
+      generation = g;
+      tag = 3;
+      name = l .name;
+      backlog = l .backlog;
+      head = l .head;
+      pending = l .pending;
+      peer = 0;
+      «inbox_closed» = 0;
+      «outbox_closed» = 0;
+      byte = 0;
+      «written_total» = 0;
+      «read_total» = 0;
+      first = 0;
+      items = 0;
+      waits = 0;
+      place = 0;
     }
 
 abbrev pub flag : Bool → ℕ
@@ -92,8 +118,12 @@ flag b = cond b 1 0
 abbrev pub connectedCell : ℕ → Connection → Cell
 connectedCell g c =
     record {
-      generation = g; tag = 4; name = 0;
-      backlog = 0; head = 0; pending = 0;
+      generation = g;
+      tag = 4;
+      name = 0;
+      backlog = 0;
+      head = 0;
+      pending = 0;
       peer = c .peer .0;
       «inbox_closed» = flag (c .«inbox_closed»);
       «outbox_closed» = flag (c .«outbox_closed»);

@@ -1,7 +1,8 @@
 -- The lent storage, slot by slot: all of a slot's cells are its row.
 use Prim.Native.Nat.{ℕ, _≤_}
+use mathlib.Core.Path.{_≡_}
 use mathlib.Core.List.{List, []}
-use lib.ListN.{length}
+use lib.ListN.{length, take, drop}
 use Rattle.laws.specs.Tab.{tab}
 use Rattle.storage.specs.Layout.{sizesOf, part, placesBase, queueBase, ringBase, nameBase, tokensBase}
 use Rattle.storage.specs.Cells.{cellAt, plainCell}
@@ -69,3 +70,13 @@ pub record Roomy (n c : ℕ) (s : Store) : Type 0 where
   pub words : sizesOf n c .words ≤ length (s .words)
   pub bytes : sizesOf n c .bytes ≤ length (s .bytes)
   pub tokens : sizesOf n c .tokens ≤ length (s .tokens)
+
+-- all but the rows is the same: the header, what lies beyond the least sizes, and the lengths
+pub record Around (n c : ℕ) (s s′ : Store) : Type 0 where
+  pub words-long : length (s′ .words) ≡ length (s .words)
+  pub bytes-long : length (s′ .bytes) ≡ length (s .bytes)
+  pub tokens-long : length (s′ .tokens) ≡ length (s .tokens)
+  pub header : take 8 (s′ .words) ≡ take 8 (s .words)
+  pub beyond-words : drop (sizesOf n c .words) (s′ .words) ≡ drop (sizesOf n c .words) (s .words)
+  pub beyond-bytes : drop (sizesOf n c .bytes) (s′ .bytes) ≡ drop (sizesOf n c .bytes) (s .bytes)
+  pub beyond-tokens : drop (sizesOf n c .tokens) (s′ .tokens) ≡ drop (sizesOf n c .tokens) (s .tokens)

@@ -5,7 +5,6 @@ ghost use lib.ListN.{length};
 ghost use Rattle.rules.specs.Table.{slotOf, handle};
 ghost use Rattle.storage.specs.Cells.{cellAt};
 ghost use Rattle.storage.specs.Finding.{occupied, waiting, openIn, liveIn, freeCell, least};
-
 use crate::Cell;
 use crate::State;
 use words::Handle;

@@ -8,7 +8,6 @@ ghost use Rattle.inbox.specs.Promise.{MayPush, policyOf, Takes, Discards};
 ghost use Rattle.storage.specs.Layout.{part, placesBase, ringBase, tokensBase};
 ghost use Rattle.storage.specs.Rows.{lent, Roomy};
 ghost use Rattle.storage.specs.Inboxes.{PushesAt};
-
 use inbox::AttachedItems;
 use inbox::Discarded;
 use inbox::Inbox;

@@ -9,7 +9,6 @@ ghost use Prim.Native.Nat.{_+_, _*_, _≤_, _<_};
 ghost use lib.ListN.{length};
 ghost use Rattle.storage.specs.Layout.{sizesOf};
 ghost use Rattle.storage.specs.Cells.{cellAt, storeAt, stateOf, cellOf, connectionOf, plainCell, listeningCell, connectedCell};
-
 use inbox::Inbox;
 use words::Handle;
 

@@ -6,7 +6,6 @@ ghost use lib.Seq.{paste};
 ghost use Rattle.storage.specs.Layout.{part, nameBase};
 ghost use Rattle.storage.specs.Cells.{cellAt};
 ghost use Rattle.storage.specs.Finding.{named, nameLength, holdsCell, least};
-
 use crate::State;
 
 // A bound or listening socket.

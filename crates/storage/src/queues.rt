@@ -3,7 +3,6 @@ ghost use mathlib.Core.Path.{_≡_};
 ghost use Prim.Native.Nat.{_+_, _*_, _≤_, _<_};
 ghost use lib.ListN.{length, getD, set};
 ghost use Rattle.storage.specs.Layout.{queueBase};
-
 use words::Handle;
 
 // The handle at place `k` of the ring of slot `i`.
