@@ -1,0 +1,1 @@
+// The table in the lent storage.
