@@ -27,7 +27,7 @@ use Rattle.rules.proofs.Formed.{Formed, few, formed-run, formed-fresh, 
 
 -- ── Tests over ranges and lists ──
 
-every-at : (n : ℕ) (p : ℕ → Bool) (i : ℕ) → every n p ≡ true → i < n → p i ≡ true
+pub every-at : (n : ℕ) (p : ℕ → Bool) (i : ℕ) → every n p ≡ true → i < n → p i ≡ true
 unfolding every
 every-at zero p i e l = absurd (not-suc-le-zero l)
 every-at (suc n) p i e l = go (ℕ-discrete i n) (every-at n p i (and-right (p n) (every n p) e))
@@ -36,7 +36,7 @@ every-at (suc n) p i e l = go (ℕ-discrete i n) (every-at n p i (and-right (p n
     go (yes z) f = rw z (and-left (p n) (every n p) e)
     go (no z) f = f (omega arith)
 
-at-every : (n : ℕ) (p : ℕ → Bool) → ((i : ℕ) → i < n → p i ≡ true) → every n p ≡ true
+pub at-every : (n : ℕ) (p : ℕ → Bool) → ((i : ℕ) → i < n → p i ≡ true) → every n p ≡ true
 unfolding every
 at-every zero p f = refl
 at-every (suc n) p f = rw (f n (omega arith)) (at-every n p (λ i l. f i (omega arith)))

@@ -174,3 +174,8 @@ module _ (n c : ℕ) (s : Store) where
       least-same n (λ i. holdsCell (cellAt (s .words) i) (part (nameBase n c i) 255 (s .bytes)) m) (λ i. holds m (show (rowAt n c s i)))
       (λ i h. shown-holds (rowAt n c s i) (cellAt (s .words) i .generation) (stateOf (cellAt (s .words) i)) m)
       ∙ sym (first-least (holds m) n (rowAt n c s))
+
+-- a slot in a known state
+pub seen : (n c : ℕ) (s : Store) (i : ℕ) (σ : State) → i < n → stateOf (cellAt (s .words) i) ≡ σ → at (view n c s) i ≡ showIn (rowAt n c s i) (cellAt (s .words) i .generation) σ
+unfolding rowAt
+seen n c s i σ h e = at-view n c s i h ∙ ap (showIn (rowAt n c s i) (cellAt (s .words) i .generation)) e
