@@ -1,1 +1,10 @@
 pub mod Links
+pub mod Facts
+pub mod EqualPeers
+pub mod EqualInbox
+pub mod EqualNames
+pub mod EqualQueues
+pub mod Equal
+pub mod EqualTests
+pub mod EqualDown
+pub mod EqualUp
