@@ -8,3 +8,8 @@ pub mod Equal
 pub mod EqualTests
 pub mod EqualDown
 pub mod EqualUp
+pub mod Conjunctions
+pub mod OwnNumbers
+pub mod Peers
+pub mod Servers
+pub mod Pass

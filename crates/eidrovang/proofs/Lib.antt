@@ -1,0 +1,3 @@
+pub mod Passing
+pub mod Parts
+pub mod Results

@@ -1,0 +1,40 @@
+-- What the parts of a call ask of an admitted table.
+use mathlib.Core.Path.{_≡_, refl, sym, ap, _∙_, subst}
+use mathlib.Core.Logic.{_≢_}
+use mathlib.Core.List.{List}
+use Prim.Native.Nat.{ℕ, _+_, _*_, _^_, _≤_, _<_}
+use native.Mathlib.Omega.{arith}
+use lib.ListN.{length}
+use Rattle.storage.specs.Cells.{cellAt, stateOf}
+use Rattle.storage.specs.Rows.{Store, lent, Roomy}
+use Rattle.storage.specs.Finding.{least, freeCell}
+use Rattle.storage.specs.declared.Slot.{Slot}
+use Rattle.table.specs.Admission.{Admitted}
+use Rattle.promise.proofs.Free.{Free, free-found}
+
+pub slots-in : {n c : ℕ} {w b t : List ℕ} {x y : ℕ} → Admitted n c (lent w b t) x y → 8 + 16 * n ≤ length w
+slots-in a = let z = a .words in omega arith
+
+pub slot-in : {n c : ℕ} {w b t : List ℕ} {x y : ℕ} → Admitted n c (lent w b t) x y → (i : ℕ) → i < n → 8 + 16 * i + 16 ≤ length w
+slot-in a i h = let z = a .words in omega arith
+
+-- of the slot for a new socket
+module _ {n c : ℕ} {w b t : List ℕ} {x y : ℕ} (a : Admitted n c (lent w b t) x y) (i : ℕ) (e : i ≡ least n (λ j. freeCell (cellAt w j))) (ne : i ≡ n → ⊥) where
+  pub free-in : 8 + 16 * i + 16 ≤ length w
+  free-in = slot-in a i (free-found n c (lent w b t) i e ne .within)
+
+  pub free-less : i < n
+  free-less = free-found n c (lent w b t) i e ne .within
+
+  module _ (s : Slot) (es : s ≡ record { generation = cellAt w i .generation; state = stateOf (cellAt w i) }) where
+    pub next-fits : s .generation + 1 < 2 ^ 64
+    next-fits = let z = free-found n c (lent w b t) i e ne .young in let y = ap (λ (q : Slot). q .generation) es in omega arith
+
+    pub next-handle : (s .generation + 1 ≤ 4294967295) × (i < 65536)
+    next-handle =
+        let f = free-found n c (lent w b t) i e ne in
+        let z = f .young in
+        let h = f .within in
+        let m = a .few in
+        let y = ap (λ (q : Slot). q .generation) es in
+        (omega arith, omega arith)

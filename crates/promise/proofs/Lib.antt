@@ -1,0 +1,7 @@
+pub mod Answering
+pub mod Known
+pub mod Kept
+pub mod Changed
+pub mod Free
+pub mod Asked
+pub mod Live
