@@ -1,16 +1,19 @@
 -- What the parts of a call ask of an admitted table.
 use mathlib.Core.Path.{_≡_, refl, sym, ap, _∙_, subst}
 use mathlib.Core.Logic.{_≢_}
+use mathlib.Core.Bool.{Bool, true, false, not}
 use mathlib.Core.List.{List}
 use Prim.Native.Nat.{ℕ, _+_, _*_, _^_, _≤_, _<_}
 use native.Mathlib.Omega.{arith}
 use lib.ListN.{length}
 use Rattle.storage.specs.Cells.{cellAt, stateOf}
 use Rattle.storage.specs.Rows.{Store, lent, Roomy}
-use Rattle.storage.specs.Finding.{least, freeCell}
+use Rattle.rules.specs.Table.{slotOf}
+use Rattle.storage.specs.Finding.{least, freeCell, liveIn}
 use Rattle.storage.specs.declared.Slot.{Slot}
 use Rattle.table.specs.Admission.{Admitted}
 use Rattle.promise.proofs.Free.{Free, free-found}
+use Rattle.promise.proofs.Live.{live}
 
 pub slots-in : {n c : ℕ} {w b t : List ℕ} {x y : ℕ} → Admitted n c (lent w b t) x y → 8 + 16 * n ≤ length w
 slots-in a = let z = a .words in omega arith
@@ -38,3 +41,7 @@ module _ {n c : ℕ} {w b t : List ℕ} {x y : ℕ} (a : Admitted n c (lent w b 
         let m = a .few in
         let y = ap (λ (q : Slot). q .generation) es in
         (omega arith, omega arith)
+
+-- the slot of a live handle
+pub live-in : {n c : ℕ} {w b t : List ℕ} {x y : ℕ} → Admitted n c (lent w b t) x y → (h : ℕ) (r : Bool) → r ≡ liveIn n w h → not r ≡ false → (j : ℕ) → j ≡ slotOf h → 8 + 16 * j + 16 ≤ length w
+live-in {n} {c} {w} {b} {t} a h r e d j ej = let l = live n c (lent w b t) h r e d .within in slot-in a j (omega arith)

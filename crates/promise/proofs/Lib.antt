@@ -3,5 +3,5 @@ pub mod Known
 pub mod Kept
 pub mod Changed
 pub mod Free
-pub mod Asked
 pub mod Live
+pub mod Asked

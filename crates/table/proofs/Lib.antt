@@ -13,3 +13,5 @@ pub mod OwnNumbers
 pub mod Peers
 pub mod Servers
 pub mod Pass
+pub mod Admitting
+pub mod Fresh

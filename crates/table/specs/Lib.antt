@@ -1,3 +1,4 @@
 pub mod Formed
 pub mod Admission
 pub mod OnePass
+pub mod Making

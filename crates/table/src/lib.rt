@@ -1,7 +1,9 @@
-// The table in the lent storage: is it well-formed?
+// The table in the lent storage: is it well-formed, and may a call go on?
 pub mod fields;
+pub mod make;
 pub mod pairs;
 pub mod pending;
+pub mod sizes;
 
 ghost use mathlib.Core.Path.{_≡_};
 ghost use mathlib.Core.Bool.{_&&_};
@@ -9,14 +11,19 @@ ghost use mathlib.Core.List.{[]};
 ghost use Prim.Native.Nat.{_+_, _*_, _≤_, _<_};
 ghost use lib.ListN.{length, getD};
 ghost use lib.Dec.{eqb};
+ghost use Rattle.words.specs.Numbers.{refusalOf};
 ghost use Rattle.rules.specs.WellFormed.{every};
 ghost use Rattle.storage.specs.Cells.{cellAt};
+ghost use Rattle.storage.specs.Rows.{lent};
 ghost use Rattle.storage.specs.declared.State.the-variants.{Listening, Connected};
 ghost use Rattle.table.specs.Formed.{headerWell};
 ghost use Rattle.table.specs.OnePass.{nameChecks, stateChecks, slotChecks};
+ghost use Rattle.table.specs.Admission.{admits};
 use storage::Connection;
 use storage::Listener;
 use storage::State;
+use words::Errno;
+use words::Verdict;
 
 // The six words after N and C.
 fn zeros(words: &[u64]) -> bool
@@ -164,4 +171,31 @@ pub fn well_formed(words: &[u64], bytes: &[u8], n: usize, c: usize) -> bool
         i += 1;
     }
     true
+}
+
+// What every call asks first: "N or C out of range 2; 18; 19".
+pub fn admission(
+    words: &[u64],
+    bytes: &[u8],
+    tokens: &[u32],
+    wakes: &[u64],
+    releases: &[u32],
+    n: usize,
+    c: usize,
+) -> Verdict
+    ensures { λ r. ⌜ refusalOf r ≡ admits n c (lent (now (words .entry)) (now (bytes .entry)) (now (tokens .entry))) (length (now (wakes .entry))) (length (now (releases .entry))) ⌝ }
+{
+    if !sizes::in_range(n, c) {
+        return Verdict::Refused(Errno::EINVAL);
+    }
+    if !sizes::storage_fits(words, bytes, tokens, n, c) {
+        return Verdict::Refused(Errno::SHORT);
+    }
+    if !sizes::lists_fit(wakes, releases, n, c) {
+        return Verdict::Refused(Errno::SHORT);
+    }
+    if !well_formed(words, bytes, n, c) {
+        return Verdict::Refused(Errno::DAMAGED);
+    }
+    Verdict::Accepted
 }

@@ -1,4 +1,4 @@
-use Rattle.table.proofs.Pass.{its-handle, bad-peer, bad-inbox, by-standing}
+use Rattle.table.proofs.Pass.{bad-peer, bad-inbox, by-standing}
 use borrow.Author.Needs.{needs}
 use Rattle.table.proofs.connected_checks.Statement.{statement}
 use Rattle.table.proofs.connected_checks.Tie as tie
