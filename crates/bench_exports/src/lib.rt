@@ -1,4 +1,4 @@
-// What `make bench` times and `lines` runs of the inbox: its calls in a form that needs nothing of
+// What `make bench` times and `inbox_lines` runs of the inbox: its calls in a form that needs nothing of
 // its caller. The five numbers of an inbox stand in a lent list. Sizes that do not fit are refused
 // with 18, an inbox that is not well with 19.
 ghost use mathlib.Core.Path.{_≡_};
@@ -101,6 +101,41 @@ pub extern "C" fn bench_take(
         moved: taken.moved as u64,
         items: taken.items as u64,
         released: taken.released as u64,
+    }
+}
+
+#[no_mangle]
+pub extern "C" fn bench_discard(
+    numbers: &mut [u64],
+    ring: &[u8],
+    places: &[u64],
+    tokens: &[u32],
+    releases: &mut [u32],
+) -> BenchAnswer {
+    if numbers.len() < 5 || 65536 < ring.len() {
+        return refused(Errno::SHORT);
+    }
+    if places.len() != 256 {
+        return refused(Errno::SHORT);
+    }
+    if tokens.len() != 256 {
+        return refused(Errno::SHORT);
+    }
+    if releases.len() < 256 {
+        return refused(Errno::SHORT);
+    }
+    let inbox = load(numbers);
+    if !inbox.is_well(places, ring.len()) {
+        return refused(Errno::DAMAGED);
+    }
+    let discarded = inbox.discard(ring.len(), tokens, releases, 0);
+    store(numbers, discarded.inbox);
+    BenchAnswer {
+        refusal: 0,
+        flags: 0,
+        moved: 0,
+        items: 0,
+        released: discarded.released as u64,
     }
 }
 

@@ -1,1 +1,5 @@
+pub mod Called
 pub mod Socketing
+pub mod Binding
+pub mod Listening
+pub mod Accepting

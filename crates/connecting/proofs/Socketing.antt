@@ -1,17 +1,15 @@
 -- socket
-use mathlib.Core.Path.{_≡_, refl, sym, ap, _∙_, subst}
+use mathlib.Core.Path.{_≡_, refl, sym, ap, _∙_}
 use mathlib.Core.Logic.{_≢_}
-use mathlib.Core.Bool.{Bool, true, false, cond, not, true≢false, false≢true}
-use mathlib.Core.List.{List, [], _∷_}
-use Prim.Native.Nat.{ℕ, suc, _+_, _*_, _≤_, _<_}
+use mathlib.Core.Bool.{Bool, true, false, cond, not}
+use mathlib.Core.List.{List, []}
+use Prim.Native.Nat.{ℕ, suc, _+_}
 use native.Mathlib.Omega.{arith}
 use lib.IntN.{ℤ}
-use lib.ListN.{length}
 use Rattle.words.specs.Integers.{equals}
 use Rattle.words.specs.Numbers.{numberOf}
 use Rattle.words.specs.declared.Errno.{Errno}
 use Rattle.words.specs.declared.Errno.the-variants.{EAFNOSUPPORT, EPROTOTYPE, EPROTONOSUPPORT, ENFILE}
-use Rattle.words.specs.declared.Handle.{Handle}
 use Rattle.words.specs.declared.Verdict.{Verdict}
 use Rattle.syscall.specs.Arguments.{socketOf}
 use Rattle.rules.specs.Table as model
@@ -20,25 +18,22 @@ use Rattle.rules.specs.Outcome.{Call, Outcome, refuse, answer, refuseIf}
 use Rattle.rules.specs.Connecting.{doSocket}
 use Rattle.rules.specs.Run.{run}
 use Rattle.storage.specs.Cells.{cellAt, stateOf, storeAt, cellOf}
-use Rattle.storage.specs.Rows.{Store, Row, Around, lent, rowAt, rows, withCell}
+use Rattle.storage.specs.Rows.{Store, Row, lent, rowAt, withCell}
 use Rattle.storage.specs.View.{view, show, showIn}
 use Rattle.storage.specs.Finding.{least, freeCell}
-use Rattle.storage.specs.declared.Slot.{Slot}
 use Rattle.storage.specs.declared.State.{State}
-use Rattle.storage.specs.declared.State.the-variants.{Closed, Unbound, Bound, Listening, Connected}
-use Rattle.storage.proofs.Coding.{back, back-gen}
-use Rattle.storage.proofs.Framing.{store-rows}
-use Rattle.storage.proofs.Around.{store-around}
+use Rattle.storage.specs.declared.State.the-variants.{Unbound}
+use Rattle.storage.proofs.Coding.{back}
 use Rattle.table.specs.Formed.{fieldsWell, rangesWell}
-use Rattle.table.specs.Admission.{Admitted}
 use Rattle.promise.specs.Answers.{refusedWith, acceptedWith}
 use Rattle.promise.specs.Hidden.{hiddenIn, hiddenAfter, roomAfter}
-use Rattle.promise.specs.Promise.{Lists, Stored, Done}
+use Rattle.promise.specs.Promise.{Lists, Done}
 use Rattle.promise.specs.declared.Answer.{Answer}
-use Rattle.promise.proofs.Known.{Known, known, refused-done}
+use Rattle.promise.proofs.Known.{Known, refused-done}
 use Rattle.promise.proofs.Kept.{keeps-free, other-state}
-use Rattle.promise.proofs.Changed.{Fit, fields-unbound, row-stored, accepted-done}
+use Rattle.promise.proofs.Changed.{Fit, fields-unbound, accepted-done}
 use Rattle.promise.proofs.Free.{Free, none-free, free-found}
+use Rattle.connecting.proofs.Called.{cell-stored}
 
 -- what socket does when its arguments are answered
 unfoldable after-arguments : Table → Verdict → Outcome → Outcome
@@ -131,9 +126,7 @@ module _ (n c : ℕ) (s : Store) (l : Lists) (d ty p d′ ty′ p′ : ℤ) (v :
       let next-is : run t (Call.Socket d ty p) .next ≡ put t i (show (withCell (cellOf g Unbound) (rowAt n c s i))) =
       ap (λ (x : Outcome). x .next) o-is ∙ entered t i g (rowAt n c s i) eg in
       accepted-done (run t (Call.Socket d ty p)) (enter t i true model.State.Unbound) (handle g i) [] n c s s′ l l r o-is
-      (row-stored n c s s′ (Call.Socket d ty p) i (withCell (cellOf g Unbound) (rowAt n c s i)) k (f .within)
-      (ap (λ (x : List ℕ). rows n c (lent x (s .bytes) (s .tokens))) ew ∙ store-rows n c (s .words) (s .bytes) (s .tokens) (k .roomy) i (f .within) (cellOf g Unbound))
-      (subst (λ (x : List ℕ). Around n c s (lent x (s .bytes) (s .tokens))) (sym ew) (store-around n c (s .words) (s .bytes) (s .tokens) (k .roomy) i (f .within) (cellOf g Unbound)))
+      (cell-stored n c s (Call.Socket d ty p) i (cellOf g Unbound) w′ k (f .within) ew
       next-is
       (unbound-fit n c g (rowAt n c s i))
       (keeps-free (rowAt n c s i) (withCell (cellOf g Unbound) (rowAt n c s i)) (λ b e. other-state (sym (f .is-closed) ∙ e) (λ z. omega arith)) (λ q e. other-state (sym (back g Unbound) ∙ e) (λ z. omega arith))))

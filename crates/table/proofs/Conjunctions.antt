@@ -13,10 +13,6 @@ pub nope : (b : Bool) → (b ≡ true → ⊥) → false ≡ b
 nope true f = absurd (f refl)
 nope false f = refl
 
-pub and-off : (a : Bool) → false ≡ a && false
-and-off true = refl
-and-off false = refl
-
 pub or-on : (a : Bool) → true ≡ a || true
 or-on true = refl
 or-on false = refl

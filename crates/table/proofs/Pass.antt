@@ -1,7 +1,7 @@
 -- What the pass over the header and the slots leaves at each return.
-use mathlib.Core.Path.{_≡_, sym, ap, _∙_}
+use mathlib.Core.Path.{_≡_, refl, sym, ap, _∙_}
 use mathlib.Core.Logic.{_≢_}
-use mathlib.Core.Bool.{Bool, true, false, not, _&&_}
+use mathlib.Core.Bool.{Bool, true, false, cond, not, _&&_}
 use mathlib.Core.List.{List, []}
 use Prim.Native.Nat.{ℕ, _+_, _-_, _≤_, _<_}
 use lib.Dec.{leb, ltb, eqb}
@@ -12,7 +12,7 @@ use Rattle.laws.proofs.Tests.{and-left, and-four}
 use Rattle.inbox.specs.Well.{isWell}
 use Rattle.rules.specs.Table.{handle}
 use Rattle.rules.specs.WellFormed.{every}
-use Rattle.storage.specs.Layout.{part, nameBase, placesBase}
+use Rattle.storage.specs.Layout.{part, cellBase, nameBase, placesBase}
 use Rattle.storage.specs.Cells.{cellAt, stateOf}
 use Rattle.storage.specs.Finding.{least, holdsCell}
 use Rattle.storage.specs.declared.Cell.{Cell}
@@ -23,6 +23,7 @@ use Rattle.storage.specs.declared.State.the-variants.{Closed, Unbound, Bound, L
 use Rattle.storage.proofs.Lending.{span}
 use Rattle.table.specs.Formed.{headerWell, fieldsWell, rangesWell, tiedState}
 use Rattle.table.specs.OnePass.{nameChecks, peerChecks, stateChecks, generationWell, slotChecks}
+use Rattle.table.proofs.OwnNumbers.{fields-closed}
 use Rattle.table.proofs.Conjunctions.{last-of-two, first-of-three, second-of-three, last-of-three, AllBefore, all-done, one-fails}
 
 -- ── The header ──
@@ -130,6 +131,19 @@ module _ (n c : ℕ) (w b : List ℕ) (i : ℕ) (σ : State) where
   check-connected k r e z = rw e z
 
 -- ── A slot ──
+
+closed-state : (k : Cell) → k .tag ≡ 0 → stateOf k ≡ Closed
+unfolding stateOf
+closed-state k e = rw e
+
+on-three : (a : Bool) → a ≡ a && true && true && true
+on-three true = refl
+on-three false = refl
+
+pub slot-closed : (n c : ℕ) (w b : List ℕ) (i : ℕ) → getD w (cellBase i + 1) 0 ≡ 0 → leb (getD w (cellBase i + 0) 0) 4294967295 ≡ slotChecks n c w b i
+unfolding slotChecks generationWell stateChecks cellAt
+slot-closed n c w b i e =
+    rw (closed-state (cellAt w i) e, sym (fields-closed (cellAt w i) e)) (on-three (leb (getD w (cellBase i + 0) 0) 4294967295))
 
 module _ (n c : ℕ) (w b : List ℕ) (i : ℕ) (k : Cell) (ek : k ≡ cellAt w i) where
   pub bad-generation : (p : Bool) → p ≡ generationWell k → not p ≡ true → false ≡ slotChecks n c w b i

@@ -132,10 +132,15 @@ fn state_checks(
     }
 }
 
+// Of a closed slot no more than two words are read.
 fn slot_checks(words: &[u64], bytes: &[u8], n: usize, c: usize, i: usize) -> bool
     requires { ⌜ (i < n) × (n ≤ 1024) × (8 + 272 * n + n * n ≤ length (now words)) × (c * n + 255 * n ≤ length (now bytes)) ⌝ }
     ensures { λ r. ⌜ r ≡ slotChecks n c (now (words .entry)) (now (bytes .entry)) i ⌝ }
 {
+    let b = 8 + 16 * i;
+    if words[b + 1] == 0 {
+        return words[b + 0] <= 4294967295;
+    }
     let cell = storage::load_cell(words, i);
     if !fields::generation_well(cell) {
         return false;

@@ -1,0 +1,1 @@
+// The demands over real storage: definitions and theorems only.
