@@ -1,1 +1,4 @@
 pub mod Readying
+pub mod Leaving
+pub mod Listeners
+pub mod Ended
