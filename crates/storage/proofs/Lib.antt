@@ -6,3 +6,4 @@ pub mod Finds
 pub mod Lending
 pub mod Around
 pub mod Viewed
+pub mod Least
