@@ -1,15 +1,26 @@
-# make run    a first look, in seconds
-# make test   the gate: from nothing, every crate proved, every must-fail edit refused, every program run
-# make c-test the library for C, linked and called from C
-# make bench  times the inbox beside memcpy and the Rust original (docs/BENCH.md)
-# make fmt    lay the sources out
+# make run      an appliance in small: diallers over the proved table, in seconds once the library is proved
+# make test     the gate: the library linked and called from C and Rust, the Rust original beside it; and then, from
+#               nothing, every crate proved, every must-fail edit refused, every program run
+# make archive  target/native/libeidrovang.a, to be linked with include/eidrovang.h
+# make c-test   the library called from C
+# make oracle   the whole comparison with the Rust original, in minutes
+# make bench    times the library beside memcpy and the Rust original (docs/BENCH.md)
+# make fmt      lay the sources out
 #
-# All that is needed is Rattle's kit, whose command `rt` is on the PATH; c-test also needs a C compiler,
-# bench also Rust.
+# All that is needed is Rattle's kit, whose command `rt` is on the PATH; C and Rust are called only where a compiler
+# is to be had.
 
-.PHONY: run test c-test bench fmt kit
+SEED ?= 1
+ARCHIVE = target/native/libeidrovang.a
+
+.PHONY: run tour test archive c-test oracle bench fmt kit
 
 run: kit
+	@if command -v cargo >/dev/null; then $(MAKE) --no-print-directory $(ARCHIVE) && \
+	EIDROVANG_LIB_DIR=$$PWD/target/native cargo run --quiet --release --offline --manifest-path host/Cargo.toml --target-dir host/target --example appliance -- $(SEED); \
+	else echo "there is no cargo: the tour of addresses instead of the appliance"; $(MAKE) --no-print-directory tour; fi
+
+tour: kit
 	@echo "proving and building tour (some seconds the first time) .."
 	@mkdir -p target && rt check tour >target/run.log 2>&1 || { tail -n 20 target/run.log; exit 1; }
 	@target/bin/tour
@@ -17,13 +28,27 @@ run: kit
 # What runs before rt ci fails the run by its exit status; the last line is rt's own.
 test: kit
 	@rt fmt --check
+	@$(MAKE) --no-print-directory archive c-test
+	@scripts/oracle-tests
+	@scripts/host-tests
 	@rt ci
 
-c-test: kit
+archive: kit
+	@echo "proving the library and building it for this machine (some minutes) .."
+	@scripts/native-archive eidrovang $(ARCHIVE)
+
+$(ARCHIVE):
+	@$(MAKE) --no-print-directory archive
+
+c-test: $(ARCHIVE)
 	@command -v $(CC) >/dev/null || { echo "c-test: passed over, there is no C compiler ($(CC))"; exit 0; }; \
-	scripts/native-archive eidrovang target/native/libeidrovang.a && \
-	$(CC) -std=c11 -Wall -Wextra -Wpedantic -Werror -O2 -Iinclude tests/c/plain.c target/native/libeidrovang.a -o target/native/plain && \
-	target/native/plain
+	for t in tests/c/*.c; do \
+	    $(CC) -std=c11 -Wall -Wextra -Wpedantic -Werror -O2 -Iinclude $$t $(ARCHIVE) -o target/native/$$(basename $$t .c) && \
+	    target/native/$$(basename $$t .c) || exit 1; \
+	done
+
+oracle: $(ARCHIVE)
+	@scripts/oracle-all
 
 bench: kit
 	@command -v cargo >/dev/null || { echo "bench: passed over, there is no cargo"; exit 0; }; \

@@ -1,1 +1,14 @@
 pub mod Total
+pub mod UniqueMaking
+pub mod Reachable
+pub mod Entries
+pub mod WakeUp
+pub mod Following
+pub mod Lines
+pub mod ShutOut
+pub mod UniqueRings
+pub mod UniqueCells
+pub mod UniqueIndex
+pub mod Unique
+pub mod Witness
+pub mod UniqueExact

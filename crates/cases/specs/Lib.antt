@@ -1,1 +1,5 @@
 pub mod Step
+pub mod Made
+pub mod Sleeper
+pub mod Leads
+pub mod Excepted

@@ -1,0 +1,3 @@
+pub mod Entered
+pub mod Joints
+pub mod Leasts
