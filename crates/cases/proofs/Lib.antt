@@ -12,3 +12,4 @@ pub mod UniqueIndex
 pub mod Unique
 pub mod Witness
 pub mod UniqueExact
+pub mod AllLines
