@@ -65,7 +65,7 @@ typedef struct {
 /* The least lengths of what is lent, for n slots (1 to 1,024) of c bytes (1 to 65,536); out of
  * range: refusal 2 and all 0. */
 typedef struct {
-    uint64_t refusal;
+    uint32_t refusal;
     uint64_t words;
     uint64_t bytes;
     uint64_t tokens;

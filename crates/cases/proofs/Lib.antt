@@ -13,3 +13,4 @@ pub mod Unique
 pub mod Witness
 pub mod UniqueExact
 pub mod AllLines
+pub mod Passing

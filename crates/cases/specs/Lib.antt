@@ -3,3 +3,4 @@ pub mod Made
 pub mod Sleeper
 pub mod Leads
 pub mod Excepted
+pub mod Passing

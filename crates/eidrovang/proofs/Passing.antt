@@ -20,6 +20,10 @@ use Rattle.abi.specs.declared.CmsgHdr.{CmsgHdr}
 use Rattle.abi.specs.declared.Made.{Made}
 use Rattle.abi.specs.declared.Count.{Count}
 use Rattle.syscall.specs.Promise.{SendParsed, recvCapacityOf}
+use Rattle.rules.specs.Outcome.{Call}
+use Rattle.storage.specs.Rows.{Store}
+use Rattle.promise.specs.Promise.{Lists, Promise}
+use Rattle.promise.specs.declared.Answer as promise
 use Rattle.eidrovang.specs.declared.plain.EidNumber.{EidNumber}
 use Rattle.eidrovang.specs.declared.plain.EidHeader.{EidHeader}
 use Rattle.eidrovang.specs.Numbers.{numbers, headerNumbers, asked, directionNumber, howNumber, countNumber, headerOf, Answered}
@@ -39,6 +43,15 @@ module _ (f : ℤ) (fits : SFits w32 f) (r : EidNumber) (a : Answer) (t : r ≡ 
 
   pub send-passed : (b : List ℕ) (l l′ : List ℤ) → SendParsed (toZ w32 (ofZ w32 f)) b l l′ a → Answered (SendParsed f b l l′) r
   send-passed b l l′ h = record { answer = a; holds = subst (λ (z : ℤ). SendParsed z b l l′ a) (toZ-ofZ w32 f fits) h; told = t }
+
+-- ── Signed arguments of table calls ──
+
+module _ (n c : ℕ) (s s′ : Store) (l l′ : Lists) (r : promise.Answer) where
+  pub socket-passed : (d ty p d′ ty′ p′ : ℤ) → d′ ≡ d → ty′ ≡ ty → p′ ≡ p → Promise (Call.Socket d′ ty′ p′) n c s s′ l l′ r → Promise (Call.Socket d ty p) n c s s′ l l′ r
+  socket-passed d ty p d′ ty′ p′ ed et ep h = rw (sym ed, sym et, sym ep) h
+
+  pub shutdown-passed : (h : ℕ) (how how′ : ℤ) → how′ ≡ how → Promise (Call.Shutdown h how′) n c s s′ l l′ r → Promise (Call.Shutdown h how) n c s s′ l l′ r
+  shutdown-passed h how how′ e k = rw (sym e) k
 
 -- ── Headers ──
 
