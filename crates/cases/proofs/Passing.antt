@@ -1,26 +1,41 @@
 -- What passes through: what sends put into one inbox comes out of reads and recvmsgs in order, once.
 use mathlib.Core.Path.{_≡_, refl, sym, ap, ap₂, _∙_, subst}
 use mathlib.Core.Logic.{_≢_, _⊎_, inl, inr, ⊎-elim}
-use Prim.Native.Nat.{ℕ, _≤_, _<_, min}
+use Prim.Native.Nat.{ℕ, _*_, _≤_, _<_, min}
 use native.Mathlib.Decide.{ℕ-discrete as decEq}
 use native.Mathlib.Nat.{le-of-eq, le-trans}
 use native.Mathlib.Omega.{arith}
 use mathlib.Core.Bool.{Bool, true, false, cond, not, _&&_, _||_, false≢true, and-false}
 use mathlib.Core.List.{List, [], _∷_, _++_, map, append-nil, append-assoc}
 use lib.IntN.{ℤ}
-use lib.ListN.{length, take, drop, take-append-drop}
-use lib.Seq.{take-all, take-length}
+use lib.ListN.{length, take, drop, take-append-drop, length-append, length-take}
+use lib.Seq.{take-all, take-length, length-take-le, sets}
 use lib.Dec.{eqb}
 use borrow.Author.Tests.{eq-eqb, ne-eqb, not-false}
 use Rattle.laws.proofs.Tests.{cond-both, less-or, or-right}
-use Rattle.rules.proofs.Model.{Table, State, Inbox, Group, Call, Outcome, Policy, refuse, refuseIf, answer, at, slotOf, handleAt, isOpen, isLive, stateOf, become, give, enter, leave, isNil, allItems, append, group, others, moved, nearer, rest, handed, released, room, nothing, isFull, holds, holder, noSlot, freeSlot, newHandle, connected, reach, drained, drain, send, queued, closeEnds, closeAll, doSocket, doBind, doListen, doAccept, doConnect, doSend, doShutdown, doClose, onLive, onName, shutsRead, shutsWrite, run, after}
-use Rattle.rules.proofs.Frame.{field-put, live-open, open-at, found-used, unbound-not-listening, free-unused, enter-open, state-give, become-at, state-become-same, gen-become, gen-enter, open-handle, open-become, open-give, at-enter}
+use Rattle.rules.proofs.Model.{Table, fresh, State, Inbox, Group, Call, Outcome, Policy, refuse, refuseIf, answer, at, slotOf, handleAt, isOpen, isLive, stateOf, become, give, enter, isNil, allItems, append, group, others, upTo, moved, nearer, rest, handed, released, room, nothing, holder, freeSlot, newHandle, connected, reach, drained, drain, send, queued, closeEnds, closeAll, kept, doSocket, doBind, doListen, doAccept, doConnect, doSend, doShutdown, doClose, onLive, onName, shutsRead, shutsWrite, run, after}
+use Rattle.rules.proofs.Lines.{model, groups, h2}
+use Rattle.rules.proofs.Frame.{field-put, live-open, open-at, found-used, unbound-not-listening, free-unused, enter-open, state-give, become-at, state-become-same, gen-become, gen-enter, open-handle, open-become, open-give, at-enter, cons-nil}
 use Rattle.rules.proofs.Walk.{Steps, walk}
 use Rattle.rules.proofs.Sized.{sized-run}
 use Rattle.rules.proofs.Wf.{steady-give, steady-closeAll}
-use Rattle.rules.proofs.Ends.{closeAll-old}
+use Rattle.rules.proofs.InboxOk.{InboxOk}
+use Rattle.rules.proofs.Ends.{closeAll-old, StateOk, Inboxes}
 use Rattle.rules.proofs.Moves.{tells-run}
-use Rattle.cases.specs.Passing.{inboxOf, held, bytesAt, itemsAt, sendsTo, reaches, bytesIn, itemsIn, bytesOut, bytesDropped, itemsOut, allBytesIn, allItemsIn, allBytesGone, allBytesOut, allItemsOut}
+use Rattle.rules.proofs.WfRun.{none-open}
+use Rattle.storage.specs.Rows.{Store}
+use Rattle.storage.specs.View.{view}
+use Rattle.table.specs.Formed.{formed}
+use Rattle.table.specs.Admission.{admits, Admitted}
+use Rattle.table.proofs.Facts.{admitted}
+use Rattle.promise.specs.Promise.{Lists, outcome, Done, Filled}
+use Rattle.cases.specs.Step.{Request, Result, Allowed, Reached}
+use Rattle.cases.specs.Made as making
+use Rattle.cases.specs.Made.{Made, taken}
+use Rattle.cases.proofs.Reachable.{outcome-passed, outcome-barred, table-formed, few-in, Fitting, fitting, barred-same, taken-done, step-next, made-fresh, reachable}
+use Rattle.cases.specs.Leads.{bufferOf, itemsOf}
+use Rattle.cases.proofs.Entries.{first-entries}
+use Rattle.cases.specs.Passing.{allBytesOut, seen, Lends, AllLend, cameBytes, cameItems, goneBytes, goneItems, readBytes, droppedBytes, inboxOf, held, bytesAt, itemsAt, sendsTo, reaches, bytesIn, itemsIn, bytesOut, bytesDropped, itemsOut, allBytesIn, allItemsIn, allBytesGone, allItemsOut}
 
 -- one call: what was queued, then what it put in, is what it took out, then what is queued
 pub record Passes (t : Table) (y : Call) (o : Outcome) (g : ℕ) : Type 0 where
@@ -481,7 +496,9 @@ older-steps t =
       listen = λ h k m l e. older-same (gen-become t h _);
       again = λ h k m b q l e. older-same (gen-become t h _);
       accept = λ h m b s q l e. older-same (λ i. steady-give _ s .gens i ∙ gen-become t h _ i);
-      connect = λ h k m b q l un o e f r v y. older-then {u = enter t (freeSlot t) false (State.Connected h nothing false false)} (record { older = gen-enter t (freeSlot t) false (State.Connected h nothing false false) }) (older-same (λ i. gen-become _ k _ i ∙ gen-become _ h _ i));
+      connect = λ h k m b q l un o e f r v y.
+          let σ : State = State.Connected h nothing false false in
+          older-then {u = enter t (freeSlot t) false σ} (record { older = gen-enter t (freeSlot t) false σ }) (older-same (λ i. gen-become _ k _ i ∙ gen-become _ h _ i));
       read = λ h k m p i x y l e n. older-same (gen-become t h _);
       write = λ h p i x y new its o e r f g. older-same (gen-become t p _);
       shutdown = λ h p i x y rd wr l e.
@@ -655,3 +672,472 @@ module _ (t : Table) (g : ℕ) (n : isOpen t g ≡ false) where
 
   born-run : length (t .slots) ≤ 1024 → (y : Call) → isOpen (run t y .next) g ≡ true → held (run t y .next) g ≡ nothing
   born-run fit y = walk t fit (Born g) born-steps y .born
+
+-- ── What the host sees of a call ──
+
+-- of a call that receives: the bytes, the items and the releases
+abbrev Out : Call → Outcome → Outcome → Type 0
+Out (Call.Socket d k p) u v = Unit {0}
+Out (Call.Bind h m) u v = Unit {0}
+Out (Call.Listen h k) u v = Unit {0}
+Out (Call.Accept h) u v = Unit {0}
+Out (Call.Connect h m) u v = Unit {0}
+Out (Call.Read h size) u v = (u .bytes ≡ v .bytes) × (u .items ≡ v .items) × (u .releases ≡ v .releases)
+Out (Call.Recvmsg h size most) u v = (u .bytes ≡ v .bytes) × (u .items ≡ v .items) × (u .releases ≡ v .releases)
+Out (Call.Write h from) u v = Unit {0}
+Out (Call.Sendmsg h from its) u v = Unit {0}
+Out (Call.Shutdown h how) u v = (u .items ≡ v .items) × (u .releases ≡ v .releases)
+Out (Call.Close h) u v = Unit {0}
+Out (Call.Readiness h) u v = Unit {0}
+
+-- two outcomes say the same of what passes
+record Alike (t : Table) (y : Call) (u v : Outcome) (g : ℕ) : Type 0 where
+  in-bytes : bytesIn t y u g ≡ bytesIn t y v g
+  in-items : itemsIn t y u g ≡ itemsIn t y v g
+  out-bytes : bytesOut y u g ≡ bytesOut y v g
+  dropped : bytesDropped t y u g ≡ bytesDropped t y v g
+  out-items : itemsOut y u g ≡ itemsOut y v g
+
+alike : (t : Table) (y : Call) (u v : Outcome) (g : ℕ) → u .no ≡ v .no → u .value ≡ v .value → Out y u v → Alike t y u v g
+unfolding bytesIn itemsIn bytesOut bytesDropped itemsOut reaches
+alike t (Call.Socket d k p) u v g a b o = record { in-bytes = refl; in-items = refl; out-bytes = refl; dropped = refl; out-items = refl }
+alike t (Call.Bind h m) u v g a b o = record { in-bytes = refl; in-items = refl; out-bytes = refl; dropped = refl; out-items = refl }
+alike t (Call.Listen h k) u v g a b o = record { in-bytes = refl; in-items = refl; out-bytes = refl; dropped = refl; out-items = refl }
+alike t (Call.Accept h) u v g a b o = record { in-bytes = refl; in-items = refl; out-bytes = refl; dropped = refl; out-items = refl }
+alike t (Call.Connect h m) u v g a b o = record { in-bytes = refl; in-items = refl; out-bytes = refl; dropped = refl; out-items = refl }
+alike t (Call.Read h size) u v g a b o =
+    record {
+      in-bytes = refl;
+      in-items = refl;
+      out-bytes = ap (λ (l : List ℕ). cond (eqb h g) l []) (o .0);
+      dropped = refl;
+      out-items = ap₂ (λ (a b : List ℕ). cond (eqb h g) (a ++ b) []) (o .1) (o .2);
+    }
+alike t (Call.Recvmsg h size most) u v g a b o =
+    record {
+      in-bytes = refl;
+      in-items = refl;
+      out-bytes = ap (λ (l : List ℕ). cond (eqb h g) l []) (o .0);
+      dropped = refl;
+      out-items = ap₂ (λ (a b : List ℕ). cond (eqb h g) (a ++ b) []) (o .1) (o .2);
+    }
+alike t (Call.Write h from) u v g a b o =
+    record {
+      in-bytes = ap₂ (λ (k m : ℕ). cond (eqb k 0 && sendsTo g (stateOf t h)) (take m from) []) a b;
+      in-items = refl;
+      out-bytes = refl;
+      dropped = refl;
+      out-items = refl;
+    }
+alike t (Call.Sendmsg h from its) u v g a b o =
+    record {
+      in-bytes = ap₂ (λ (k m : ℕ). cond (eqb k 0 && sendsTo g (stateOf t h)) (take m from) []) a b;
+      in-items = ap (λ (k : ℕ). cond (eqb k 0 && sendsTo g (stateOf t h)) its []) a;
+      out-bytes = refl;
+      dropped = refl;
+      out-items = refl;
+    }
+alike t (Call.Shutdown h how) u v g a b o =
+    record {
+      in-bytes = refl;
+      in-items = refl;
+      out-bytes = refl;
+      dropped = ap (λ (k : ℕ). cond (eqb k 0 && (eqb h g && shutsRead how)) (bytesAt t g) []) a;
+      out-items = ap₂ (λ (x z : List ℕ). cond (eqb h g) (x ++ z) []) (o .0) (o .1);
+    }
+alike t (Call.Close h) u v g a b o = record { in-bytes = refl; in-items = refl; out-bytes = refl; dropped = refl; out-items = refl }
+alike t (Call.Readiness h) u v g a b o =
+    record {
+      in-bytes = refl;
+      in-items = refl;
+      out-bytes = refl;
+      dropped = refl;
+      out-items = refl;
+    }
+
+-- what a call hands out fits what was lent for it
+record Gives (u : Outcome) (size most : ℕ) : Type 0 where
+  count : u .value ≡ length (u .bytes)
+  fits : length (u .bytes) ≤ size
+  few : length (u .items) ≤ most
+  freed : length (u .releases) ≤ 256
+
+gives-refuse : (t : Table) (k size most : ℕ) → Gives (refuse t k) size most
+gives-refuse t k size most = record { count = refl; fits = omega arith; few = omega arith; freed = omega arith }
+
+gives-none : (t : Table) (size most : ℕ) → Gives (answer t 0 [] []) size most
+gives-none t size most = record { count = refl; fits = omega arith; few = omega arith; freed = omega arith }
+
+gives-if : (t : Table) (b : Bool) (k : ℕ) (u : Outcome) (size most : ℕ) → (b ≡ false → Gives u size most) → Gives (refuseIf b k t u) size most
+unfolding refuseIf
+gives-if t true k u size most f = gives-refuse t k size most
+gives-if t false k u size most f = f refl
+
+upTo-le : (ms : List Group) (k : ℕ) → upTo ms k ≤ k
+unfolding upTo
+upTo-le [] k = omega arith
+upTo-le (m ∷ ms) k = omega arith
+
+moved-le : (i : Inbox) (size : ℕ) → (moved i size ≤ size) × (moved i size ≤ length (i .bytes))
+unfolding moved
+moved-le i size = let a = upTo-le (others (i .groups)) (min size (length (i .bytes))) in (omega arith, omega arith)
+
+freed-few : (policy : Policy) (ms : List Group) → length (released policy (group ms)) ≤ length (allItems ms)
+freed-few policy ms =
+    let a : length (handed policy (group ms) ++ released policy (group ms)) ≡ length (group ms) = ap length (items-policy policy (group ms)) in
+    let b : length (group ms ++ allItems (others ms)) ≡ length (allItems ms) = ap length (items-group ms) in
+    omega (arith, a, b, length-append (handed policy (group ms)) (released policy (group ms)), length-append (group ms) (allItems (others ms)))
+
+abbrev mostOf : Policy → ℕ
+mostOf Policy.Drop = 0
+mostOf (Policy.Take m) = m
+
+handed-few : (policy : Policy) (its : List ℕ) → length (handed policy its) ≤ mostOf policy
+unfolding handed
+handed-few Policy.Drop its = omega arith
+handed-few (Policy.Take m) its = omega (arith, length-take m its)
+
+module _ (c : ℕ) (t : Table) (w : Inboxes c t) where
+  gives-drain : (h size : ℕ) (policy : Policy) → isLive t h ≡ true → (σ : State) → stateOf t h ≡ σ → Gives (drain t h size policy σ) size (mostOf policy)
+  unfolding drain drained
+  gives-drain h size policy l State.Unbound e = gives-refuse t 9 _ _
+  gives-drain h size policy l (State.Bound m) e = gives-refuse t 9 _ _
+  gives-drain h size policy l (State.Listening m b q) e = gives-refuse t 9 _ _
+  gives-drain h size policy l (State.Connected p i x z) e =
+      let ok : InboxOk c i = subst (StateOk c) e (w .ok h (live-open t h l)) in
+      let few : length (allItems (i .groups)) ≤ 256 = ok .few in
+      let m = moved-le i size in
+      let k : length (take (moved i size) (i .bytes)) ≡ moved i size = length-take-le (moved i size) (i .bytes) (m .1) in
+      cond-both (λ u. Gives u size (mostOf policy)) (isNil (i .bytes))
+      (λ _. cond-both (λ u. Gives u size (mostOf policy)) (x || not (isOpen t p))
+      (λ _. gives-none t size (mostOf policy))
+      (λ _. gives-refuse t 8 _ _))
+      (λ _. record {
+        count = sym k;
+        fits = le-trans (le-of-eq k) (m .0);
+        few = handed-few policy (group (i .groups));
+        freed = le-trans (freed-few policy (i .groups)) few;
+      })
+
+  gives-shutdown : (h : ℕ) (rd wr : Bool) → isLive t h ≡ true → (σ : State) → stateOf t h ≡ σ → Gives (doShutdown t h rd wr σ) 0 0
+  unfolding doShutdown
+  gives-shutdown h rd wr l State.Unbound e = gives-refuse t 9 _ _
+  gives-shutdown h rd wr l (State.Bound m) e = gives-refuse t 9 _ _
+  gives-shutdown h rd wr l (State.Listening m b q) e = gives-refuse t 9 _ _
+  gives-shutdown h rd wr l (State.Connected p i x z) e =
+      let ok : InboxOk c i = subst (StateOk c) e (w .ok h (live-open t h l)) in
+      let few : length (allItems (i .groups)) ≤ 256 = ok .few in
+      record {
+        count = refl;
+        fits = omega arith;
+        few = omega arith;
+        freed = cond-both (λ (a : List ℕ). length a ≤ 256) rd (λ _. few) (λ _. omega arith);
+      }
+
+  gives-read : (h size : ℕ) → Gives (run t (Call.Read h size)) size 0
+  unfolding run onLive
+  gives-read h size = gives-if t (not (isLive t h)) 1 _ size 0 λ e. gives-drain h size Policy.Drop (not-false _ e) (stateOf t h) refl
+
+  gives-recvmsg : (h size most : ℕ) → Gives (run t (Call.Recvmsg h size most)) size most
+  unfolding run onLive
+  gives-recvmsg h size most =
+      gives-if t (not (isLive t h)) 1 _ size most λ e. gives-if t (eqb size 0) 2 _ size most λ _. gives-drain h size (Policy.Take most) (not-false _ e) (stateOf t h) refl
+
+  gives-shut : (h : ℕ) (how : ℤ) → Gives (run t (Call.Shutdown h how)) 0 0
+  unfolding run onLive
+  gives-shut h how =
+      gives-if t (not (isLive t h)) 1 _ 0 0 λ e. gives-if t (not (shutsRead how || shutsWrite how)) 2 _ 0 0 λ _.
+      gives-shutdown h (shutsRead how) (shutsWrite how) (not-false _ e) (stateOf t h) refl
+
+-- the entries that an answer counts
+shown : (vs l l′ : List ℕ) (k : ℕ) → k ≡ length vs → l′ ≡ sets l 0 vs → length vs ≤ length l → take k l′ ≡ vs
+shown vs l l′ k a b h = ap₂ (λ (j : ℕ) (x : List ℕ). take j x) a b ∙ first-entries vs l h
+
+module _ (v : Outcome) (n c n′ c′ : ℕ) (s : Store) (q : Request) (r : Result) (d : Done v n′ c′ s (r .store) (q .lists) (r .lists) (r .answer))
+    (f : Filled v (q .buf) (r .buf) (q .items) (r .items)) where
+  shown-bytes : (size most : ℕ) → Gives v size most → size ≤ length (q .buf) → seen n c r .bytes ≡ v .bytes
+  shown-bytes size most k a = shown (v .bytes) (q .buf) (r .buf) (r .answer .value) (d .value-is ∙ k .count) (f .buffer) (le-trans (k .fits) a)
+
+  shown-items : (size most : ℕ) → Gives v size most → most ≤ length (q .items) → seen n c r .items ≡ v .items
+  shown-items size most k a = shown (v .items) (q .items) (r .items) (r .answer .items) (d .item-count) (f .item-list) (le-trans (k .few) a)
+
+  shown-releases : length (v .releases) ≤ length (q .lists .releases) → seen n c r .releases ≡ v .releases
+  shown-releases a = shown (v .releases) (q .lists .releases) (r .lists .releases) (r .answer .releases) (d .release-count) (d .release-list) a
+
+-- a call that was taken
+module _ (n c n′ c′ m : ℕ) (t : Table) (w : Inboxes m t) (s : Store) (buf items : List ℕ) (lists : Lists) (r : Result) (rest-fits : 256 ≤ length (lists .releases)) where
+  out-taken : (y : Call) → Done (run t y) n′ c′ s (r .store) lists (r .lists) (r .answer) → Filled (run t y) buf (r .buf) items (r .items)
+      → length buf ≡ bufferOf y → length items ≡ itemsOf y → Out y (seen n c r) (run t y)
+  out-taken (Call.Socket k j p) d f a b = tt
+  out-taken (Call.Bind h j) d f a b = tt
+  out-taken (Call.Listen h k) d f a b = tt
+  out-taken (Call.Accept h) d f a b = tt
+  out-taken (Call.Connect h j) d f a b = tt
+  out-taken (Call.Read h size) d f a b =
+      let k = gives-read m t w h size in
+      let q : Request = record { n = n′; c = c′; call = Call.Read h size; lists = lists; buf = buf; items = items } in
+      (shown-bytes (run t (Call.Read h size)) n c n′ c′ s q r d f size 0 k (le-of-eq (sym a)), shown-items (run t (Call.Read h size)) n c n′ c′ s q r d f size 0 k (le-of-eq (sym b)), shown-releases (run t (Call.Read h size)) n c n′ c′ s q r d f (le-trans (k .freed) rest-fits))
+  out-taken (Call.Recvmsg h size most) d f a b =
+      let k = gives-recvmsg m t w h size most in
+      let q : Request = record { n = n′; c = c′; call = Call.Recvmsg h size most; lists = lists; buf = buf; items = items } in
+      (shown-bytes (run t (Call.Recvmsg h size most)) n c n′ c′ s q r d f size most k (le-of-eq (sym a)), shown-items (run t (Call.Recvmsg h size most)) n c n′ c′ s q r d f size most k (le-of-eq (sym b)), shown-releases (run t (Call.Recvmsg h size most)) n c n′ c′ s q r d f (le-trans (k .freed) rest-fits))
+  out-taken (Call.Write h from) d f a b = tt
+  out-taken (Call.Sendmsg h from its) d f a b = tt
+  out-taken (Call.Shutdown h how) d f a b =
+      let k = gives-shut m t w h how in
+      let q : Request = record { n = n′; c = c′; call = Call.Shutdown h how; lists = lists; buf = buf; items = items } in
+      (shown-items (run t (Call.Shutdown h how)) n c n′ c′ s q r d f 0 0 k (le-of-eq (sym b)), shown-releases (run t (Call.Shutdown h how)) n c n′ c′ s q r d f (le-trans (k .freed) rest-fits))
+  out-taken (Call.Close h) d f a b = tt
+  out-taken (Call.Readiness h) d f a b = tt
+
+-- one that was not
+out-all : (y : Call) (u v : Outcome) → u .bytes ≡ v .bytes → u .items ≡ v .items → u .releases ≡ v .releases → Out y u v
+out-all (Call.Socket d k p) u v a b e = tt
+out-all (Call.Bind h m) u v a b e = tt
+out-all (Call.Listen h k) u v a b e = tt
+out-all (Call.Accept h) u v a b e = tt
+out-all (Call.Connect h m) u v a b e = tt
+out-all (Call.Read h size) u v a b e = (a, b, e)
+out-all (Call.Recvmsg h size most) u v a b e = (a, b, e)
+out-all (Call.Write h from) u v a b e = tt
+out-all (Call.Sendmsg h from its) u v a b e = tt
+out-all (Call.Shutdown h how) u v a b e = (b, e)
+out-all (Call.Close h) u v a b e = tt
+out-all (Call.Readiness h) u v a b e = tt
+
+-- ── One call on lent storage ──
+
+-- what a call does to what passes through g, whatever g is before it
+record Good (t : Table) (y : Call) (v : Outcome) (g : ℕ) : Type 0 where
+  passed : isOpen t g ≡ true → isOpen (v .next) g ≡ true → Passes t y v g
+  quiet : isOpen t g ≡ false → Silent t y v g
+  made : isOpen t g ≡ false → isOpen (v .next) g ≡ true → held (v .next) g ≡ nothing
+  later : handleAt t (slotOf g) ≤ handleAt (v .next) (slotOf g)
+  gone : g ≤ handleAt t (slotOf g) → isOpen t g ≡ false → isOpen (v .next) g ≡ false
+
+good-run : (t : Table) → length (t .slots) ≤ 1024 → (y : Call) (g : ℕ) → Good t y (run t y) g
+good-run t fit y g =
+    record {
+      passed = λ o a. passes t fit g o y a;
+      quiet = λ e. silent t g e y;
+      made = λ e. born-run t g e fit y;
+      later = older-run t fit y (slotOf g);
+      gone = λ l e. tells-run t fit y .moves .shut g l e;
+    }
+
+good-refuse : (t : Table) → length (t .slots) ≤ 1024 → (y : Call) (k g : ℕ) → k ≢ 0 → Good t y (refuse t k) g
+good-refuse t fit y k g ne =
+    record {
+      passed = λ o a. refused t fit g o y k (ne-eqb k 0 ne);
+      quiet = λ e. silent-refused t g y k (ne-eqb k 0 ne);
+      made = λ e o. absurd (false≢true (sym e ∙ o));
+      later = le-of-eq refl;
+      gone = λ l e. e;
+    }
+
+good-alike : (t : Table) (y : Call) (u v : Outcome) (g : ℕ) → Alike t y u v g → u .next ≡ v .next → Good t y v g → Good t y u g
+good-alike t y u v g a e k =
+    record {
+      passed = λ o b.
+          let p = k .passed o (sym (ap (λ (x : Table). isOpen x g) e) ∙ b) in
+          record {
+            bytes =
+                ap (λ (l : List ℕ). bytesAt t g ++ l) (a .in-bytes) ∙ p .bytes
+                ∙ sym (ap₂ (λ (l : List ℕ) (x : Table). l ++ bytesAt x g) (ap₂ _++_ (a .out-bytes) (a .dropped)) e);
+            items = ap (λ (l : List ℕ). itemsAt t g ++ l) (a .in-items) ∙ p .items ∙ sym (ap₂ (λ (l : List ℕ) (x : Table). l ++ itemsAt x g) (a .out-items) e);
+          };
+      quiet = λ o.
+          let p = k .quiet o in
+          record {
+            in-bytes = a .in-bytes ∙ p .in-bytes;
+            in-items = a .in-items ∙ p .in-items;
+            out-bytes = a .out-bytes ∙ p .out-bytes;
+            dropped = a .dropped ∙ p .dropped;
+            out-items = a .out-items ∙ p .out-items;
+          };
+      made = λ o b. ap (λ (x : Table). held x g) e ∙ k .made o (sym (ap (λ (x : Table). isOpen x g) e) ∙ b);
+      later = subst (λ (x : Table). handleAt t (slotOf g) ≤ handleAt x (slotOf g)) (sym e) (k .later);
+      gone = λ l o. ap (λ (x : Table). isOpen x g) e ∙ k .gone l o;
+    }
+
+taken-one : (n c : ℕ) (s : Store) (q : Request) → Fitting n c s q → after (view n c s) (taken s q) ≡ run (view n c s) (q .call) .next
+unfolding taken making.passes after
+taken-one n c s q f = rw (f .admits-it)
+
+module _ (n c : ℕ) (s : Store) (e : formed n c s ≡ true) (q : Request) (r : Result) (a : Allowed s q r) (lends : Lends q) (g : ℕ) where
+  abbrev here : Table
+  here = view n c s
+
+  good-taken : Fitting n c s q → Good here (q .call) (seen n c r) g
+  good-taken f =
+      let y : Call = q .call in
+      let d : Done (run here y) n c s (r .store) (q .lists) (r .lists) (r .answer) = taken-done n c s e q r a f in
+      let same : outcome (q .n) (q .c) s (q .lists) y ≡ run here y =
+      outcome-passed (q .n) (q .c) s (q .lists) y (f .admits-it) ∙ ap₂ (λ (i j : ℕ). run (view i j s) y) (f .slots) (f .capacity) in
+      let fills : Filled (run here y) (q .buf) (r .buf) (q .items) (r .items) =
+      subst (λ (o : Outcome). Filled o (q .buf) (r .buf) (q .items) (r .items)) same (a .fills) in
+      let let-in : Admitted (q .n) (q .c) s (length (q .lists .wakes)) (length (q .lists .releases)) = admitted (q .n) (q .c) s _ _ (f .admits-it) in
+      let long : 256 * q .n ≤ length (q .lists .releases) = let-in .release-list in
+      let some : 1 ≤ q .n = let-in .some-slot in
+      let large : 256 ≤ length (q .lists .releases) = omega arith in
+      let w = table-formed n c s e .sound .inboxes in
+      good-alike here y (seen n c r) (run here y) g
+      (alike here y (seen n c r) (run here y) g (d .refusal-is) (d .value-is)
+      (out-taken n c n c (here .capacity) here w s (q .buf) (q .items) (q .lists) r large y d fills (lends .buffer) (lends .item-list)))
+      (step-next n c s e q r a .shows ∙ taken-one n c s q f)
+      (good-run here (few-in n c s e) y g)
+
+  good-barred : admits (q .n) (q .c) s (length (q .lists .wakes)) (length (q .lists .releases)) ≢ 0 → Good here (q .call) (seen n c r) g
+  good-barred ne =
+      let y : Call = q .call in
+      let k : ℕ = admits (q .n) (q .c) s (length (q .lists .wakes)) (length (q .lists .releases)) in
+      let v : Outcome = refuse (view (q .n) (q .c) s) k in
+      let same : outcome (q .n) (q .c) s (q .lists) y ≡ v = outcome-barred (q .n) (q .c) s (q .lists) y ne in
+      let d : Done v (q .n) (q .c) s (r .store) (q .lists) (r .lists) (r .answer) =
+      subst (λ (o : Outcome). Done o (q .n) (q .c) s (r .store) (q .lists) (r .lists) (r .answer)) same (a .promise) in
+      let fills : Filled v (q .buf) (r .buf) (q .items) (r .items) = subst (λ (o : Outcome). Filled o (q .buf) (r .buf) (q .items) (r .items)) same (a .fills) in
+      let gives : Gives v 0 0 = gives-refuse (view (q .n) (q .c) s) k 0 0 in
+      let bytes : seen n c r .bytes ≡ [] = shown-bytes v n c (q .n) (q .c) s q r d fills 0 0 gives (omega arith) in
+      let items : seen n c r .items ≡ [] = shown-items v n c (q .n) (q .c) s q r d fills 0 0 gives (omega arith) in
+      let releases : seen n c r .releases ≡ [] = shown-releases v n c (q .n) (q .c) s q r d fills (omega arith) in
+      good-alike here y (seen n c r) (refuse here k) g
+      (alike here y (seen n c r) (refuse here k) g (d .refusal-is) (d .value-is) (out-all y (seen n c r) (refuse here k) bytes items releases))
+      (ap (view n c) (barred-same n c s e q r a ne))
+      (good-refuse here (few-in n c s e) y k g ne)
+
+  good : Good here (q .call) (seen n c r) g
+  good =
+      elim (decEq (admits (q .n) (q .c) s (length (q .lists .wakes)) (length (q .lists .releases))) 0)
+      [ yes z ↦ good-taken (fitting n c s e q z) | no z ↦ good-barred z ]
+
+-- ── Any calls ──
+
+-- all that was put into g's inbox, in order, is all that left it, in order, then what is queued
+pub record Passed {s₀ s : Store} (n c : ℕ) (p : Reached s₀ s) (g : ℕ) : Type 0 where
+  pub bytes : cameBytes n c p g ≡ goneBytes n c p g ++ bytesAt (view n c s) g
+  pub items : cameItems n c p g ≡ goneItems n c p g ++ itemsAt (view n c s) g
+
+-- nothing has come or gone
+record Nothing {s₀ s : Store} (n c : ℕ) (p : Reached s₀ s) (g : ℕ) : Type 0 where
+  came : cameBytes n c p g ≡ []
+  gone : goneBytes n c p g ≡ []
+  came-items : cameItems n c p g ≡ []
+  gone-items : goneItems n c p g ≡ []
+
+-- of a socket that is open, and of one that has not been made
+record Along {s₀ s : Store} (n c : ℕ) (p : Reached s₀ s) (g : ℕ) : Type 0 where
+  is-open : isOpen (view n c s) g ≡ true → Passed n c p g
+  not-yet : handleAt (view n c s) (slotOf g) < g → Nothing n c p g
+
+nil-nil : (a b : List ℕ) → a ≡ [] → b ≡ [] → a ++ b ≡ []
+nil-nil a b e f = ap₂ _++_ e f
+
+not-open : (t : Table) (g : ℕ) → handleAt t (slotOf g) < g → isOpen t g ≡ false
+not-open t g l = go (isOpen t g) refl
+  where
+    go : (b : Bool) → isOpen t g ≡ b → b ≡ false
+    go true e = absurd (let a = open-handle t g e in omega arith)
+    go false e = refl
+
+module _ (n c : ℕ) {s₀ s : Store} (p : Reached s₀ s) (q : Request) (r : Result) (a : Allowed s q r) (g : ℕ) (k : Along n c p g) (w : Good (view n c s) (q .call) (seen n c r) g) where
+  abbrev next : Reached s₀ (r .store)
+  next = Reached.then′ p q r a
+
+  nothing-next : handleAt (view n c s) (slotOf g) < g → Nothing n c next g
+  unfolding cameBytes goneBytes cameItems goneItems
+  nothing-next l =
+      let x = k .not-yet l in
+      let z = w .quiet (not-open (view n c s) g l) in
+      record {
+        came = nil-nil _ _ (x .came) (z .in-bytes);
+        gone = nil-nil _ _ (x .gone) (nil-nil _ _ (z .out-bytes) (z .dropped));
+        came-items = nil-nil _ _ (x .came-items) (z .in-items);
+        gone-items = nil-nil _ _ (x .gone-items) (z .out-items);
+      }
+
+  next-open : isOpen (view n c s) g ≡ true → isOpen (view n c (r .store)) g ≡ true → Passed n c next g
+  unfolding cameBytes goneBytes cameItems goneItems
+  next-open o o′ =
+      let t : Table = view n c s in
+      let t′ : Table = view n c (r .store) in
+      let y : Call = q .call in
+      let u : Outcome = seen n c r in
+      let x = k .is-open o in
+      let z = w .passed o o′ in
+      record {
+        bytes =
+            linked [] (cameBytes n c p g) (goneBytes n c p g) (bytesAt t g) (bytesOut y u g ++ bytesDropped t y u g) (bytesIn t y u g) (bytesAt t′ g) (x .bytes) (z .bytes);
+        items = linked [] (cameItems n c p g) (goneItems n c p g) (itemsAt t g) (itemsOut y u g) (itemsIn t y u g) (itemsAt t′ g) (x .items) (z .items);
+      }
+
+  next-made : handleAt (view n c s) (slotOf g) < g → isOpen (view n c (r .store)) g ≡ true → Passed n c next g
+  unfolding allItems
+  next-made l o′ =
+      let x = nothing-next l in
+      let e : held (view n c (r .store)) g ≡ nothing = w .made (not-open (view n c s) g l) o′ in
+      record {
+        bytes = x .came ∙ sym (nil-nil _ _ (x .gone) (ap (λ (i : Inbox). i .bytes) e));
+        items = x .came-items ∙ sym (nil-nil _ _ (x .gone-items) (ap (λ (i : Inbox). allItems (i .groups)) e));
+      }
+
+  along-next : Along n c next g
+  along-next =
+      record {
+        is-open = λ o′. go o′ (isOpen (view n c s) g) refl (less-or (handleAt (view n c s) (slotOf g)) g);
+        not-yet = λ l. let m = w .later in nothing-next (omega arith);
+      }
+    where
+      go : isOpen (view n c (r .store)) g ≡ true → (b : Bool) → isOpen (view n c s) g ≡ b
+          → (handleAt (view n c s) (slotOf g) < g) ⊎ (g ≤ handleAt (view n c s) (slotOf g)) → Passed n c (Reached.then′ p q r a) g
+      go o′ true o d = next-open o o′
+      go o′ false o (inl l) = next-made l o′
+      go o′ false o (inr l) = absurd (false≢true (sym (w .gone l o) ∙ o′))
+
+along : {s₀ s : Store} (n c : ℕ) → Made n c s₀ → (p : Reached s₀ s) → AllLend p → (g : ℕ) → Along n c p g
+unfolding cameBytes goneBytes cameItems goneItems
+along {s₀} n c m Reached.start lends g =
+    record {
+      is-open = λ o. absurd (none-open n c g (sym (ap (λ (t : Table). isOpen t g) (made-fresh n c s₀ m)) ∙ o));
+      not-yet = λ l. record { came = refl; gone = refl; came-items = refl; gone-items = refl };
+    }
+along n c m (Reached.then′ {s} p q r a) lends g =
+    along-next n c p q r a g (along n c m p (lends .0) g) (good n c s (reachable n c m p .well) q r a (lends .1) g)
+
+-- from a made storage, by any calls: for every socket g that is open at the end
+pub passes-through : {s₀ s : Store} (n c : ℕ) → Made n c s₀ → (p : Reached s₀ s) → AllLend p → (g : ℕ) → isOpen (view n c s) g ≡ true → Passed n c p g
+passes-through n c m p lends g o = along n c m p lends g .is-open o
+
+nil-both : (a b : List ℕ) → a ++ b ≡ [] → (a ≡ []) × (b ≡ [])
+nil-both [] b e = (refl, e)
+nil-both (x ∷ a) b e = absurd (cons-nil e)
+
+-- where g has dropped nothing, all that left it was read
+none-dropped : {s₀ s : Store} (n c : ℕ) (p : Reached s₀ s) (g : ℕ) → droppedBytes n c p g ≡ [] → goneBytes n c p g ≡ readBytes n c p g
+unfolding goneBytes readBytes droppedBytes
+none-dropped n c Reached.start g e = refl
+none-dropped n c (Reached.then′ {s} p q r a) g e =
+    let k = nil-both (droppedBytes n c p g) (bytesDropped (view n c s) (q .call) (seen n c r) g) e in
+    ap₂ _++_ (none-dropped n c p g (k .0)) (ap (λ (l : List ℕ). bytesOut (q .call) (seen n c r) g ++ l) (k .1) ∙ append-nil (bytesOut (q .call) (seen n c r) g))
+
+pub read-in-order : {s₀ s : Store} (n c : ℕ) → Made n c s₀ → (p : Reached s₀ s) → AllLend p → (g : ℕ) → isOpen (view n c s) g ≡ true → droppedBytes n c p g ≡ []
+    → cameBytes n c p g ≡ readBytes n c p g ++ bytesAt (view n c s) g
+read-in-order {s₀} {s} n c m p lends g o e =
+    passes-through n c m p lends g o .bytes ∙ ap (λ (l : List ℕ). l ++ bytesAt (view n c s) g) (none-dropped n c p g e)
+
+-- ── The end ──
+
+-- a close of g, connected, releases the items that are still queued, in order
+pub closing : (t : Table) (g p : ℕ) (i : Inbox) (x z : Bool) → isLive t g ≡ true → stateOf t g ≡ State.Connected p i x z → run t (Call.Close g) .releases ≡ itemsAt t g
+unfolding run onLive refuseIf doClose closeAll kept queued held inboxOf
+closing t g p i x z l e = rw (l, e) (append-nil (allItems (i .groups)))
+
+-- ── That something does pass ──
+
+-- "ab" with item 5 and "cd" with item 6 have been sent; a recvmsg takes "ab" and 5, and a read "c", which releases 6
+abbrev taking : List Call
+taking = groups ++ Call.Recvmsg h2 10 1 ∷ Call.Read h2 1 ∷ []
+
+pub something-passes : (allBytesIn (fresh 5 8) taking h2 ≡ 97 ∷ 98 ∷ 99 ∷ 100 ∷ []) × (allBytesOut (fresh 5 8) taking h2 ≡ 97 ∷ 98 ∷ 99 ∷ [])
+    × (bytesAt (after (fresh 5 8) taking) h2 ≡ 100 ∷ []) × (allItemsIn (fresh 5 8) taking h2 ≡ 5 ∷ 6 ∷ []) × (allItemsOut (fresh 5 8) taking h2 ≡ 5 ∷ 6 ∷ [])
+unfolding model allBytesIn allBytesOut allItemsIn allItemsOut bytesIn bytesOut itemsIn itemsOut reaches sendsTo held inboxOf
+something-passes = (refl, refl, refl, refl, refl)

@@ -1,13 +1,18 @@
 -- What passes through one socket's inbox: what a call puts in, what it hands out, and what it drops. In the terms of the call and of its answer.
 use Prim.Native.Nat.{ℕ}
-use mathlib.Core.Bool.{Bool, true, false, cond, _&&_}
+use mathlib.Core.Path.{_≡_}
+use mathlib.Core.Bool.{Bool, false, cond, _&&_}
 use mathlib.Core.List.{List, [], _∷_, _++_}
 use lib.Dec.{eqb}
-use lib.ListN.{take}
+use lib.ListN.{length, take}
 use Rattle.rules.specs.Table.{Table, State, Inbox, stateOf}
 use Rattle.rules.specs.Inbox.{nothing, allItems}
 use Rattle.rules.specs.Outcome.{Call, Outcome}
 use Rattle.rules.specs.Run.{run, shutsRead}
+use Rattle.storage.specs.Rows.{Store}
+use Rattle.storage.specs.View.{view}
+use Rattle.cases.specs.Step.{Request, Result, Reached}
+use Rattle.cases.specs.Leads.{bufferOf, itemsOf}
 
 -- ── What is queued ──
 
@@ -139,3 +144,55 @@ allBytesOut t (y ∷ ys) g = bytesOut y (run t y) g ++ allBytesOut (run t y .nex
 unfoldable pub allItemsOut : Table → List Call → ℕ → List ℕ
 allItemsOut t [] g = []
 allItemsOut t (y ∷ ys) g = itemsOut y (run t y) g ++ allItemsOut (run t y .next) ys g
+
+-- ── Over lent storage ──
+
+-- what the host sees of a call: its answer, and of each list and of its buffer as much as the answer counts
+abbrev pub seen : ℕ → ℕ → Result → Outcome
+seen n c r =
+    record {
+      no = r .answer .refusal;
+      value = r .answer .value;
+      wakes = take (r .answer .wakes) (r .lists .wakes);
+      releases = take (r .answer .releases) (r .lists .releases);
+      bytes = take (r .answer .value) (r .buf);
+      items = take (r .answer .items) (r .items);
+      flags = r .answer .flags;
+      next = view n c (r .store);
+    }
+
+-- the buffer and the item list that are lent are those that the call speaks of
+pub record Lends (q : Request) : Type 0 where
+  pub buffer : length (q .buf) ≡ bufferOf (q .call)
+  pub item-list : length (q .items) ≡ itemsOf (q .call)
+
+abbrev pub AllLend : {s₀ s : Store} → Reached s₀ s → Type 0
+AllLend Reached.start = Unit {0}
+AllLend (Reached.then′ p q r a) = AllLend p × Lends q
+
+-- all that was put in, in order
+unfoldable pub cameBytes : {s₀ s : Store} → ℕ → ℕ → Reached s₀ s → ℕ → List ℕ
+cameBytes n c Reached.start g = []
+cameBytes n c (Reached.then′ {s} p q r a) g = cameBytes n c p g ++ bytesIn (view n c s) (q .call) (seen n c r) g
+
+unfoldable pub cameItems : {s₀ s : Store} → ℕ → ℕ → Reached s₀ s → ℕ → List ℕ
+cameItems n c Reached.start g = []
+cameItems n c (Reached.then′ {s} p q r a) g = cameItems n c p g ++ itemsIn (view n c s) (q .call) (seen n c r) g
+
+-- all that was handed out or dropped, in order
+unfoldable pub goneBytes : {s₀ s : Store} → ℕ → ℕ → Reached s₀ s → ℕ → List ℕ
+goneBytes n c Reached.start g = []
+goneBytes n c (Reached.then′ {s} p q r a) g = goneBytes n c p g ++ (bytesOut (q .call) (seen n c r) g ++ bytesDropped (view n c s) (q .call) (seen n c r) g)
+
+unfoldable pub goneItems : {s₀ s : Store} → ℕ → ℕ → Reached s₀ s → ℕ → List ℕ
+goneItems n c Reached.start g = []
+goneItems n c (Reached.then′ {s} p q r a) g = goneItems n c p g ++ itemsOut (q .call) (seen n c r) g
+
+-- the bytes that reads and recvmsgs by g handed out, and those that it dropped
+unfoldable pub readBytes : {s₀ s : Store} → ℕ → ℕ → Reached s₀ s → ℕ → List ℕ
+readBytes n c Reached.start g = []
+readBytes n c (Reached.then′ {s} p q r a) g = readBytes n c p g ++ bytesOut (q .call) (seen n c r) g
+
+unfoldable pub droppedBytes : {s₀ s : Store} → ℕ → ℕ → Reached s₀ s → ℕ → List ℕ
+droppedBytes n c Reached.start g = []
+droppedBytes n c (Reached.then′ {s} p q r a) g = droppedBytes n c p g ++ bytesDropped (view n c s) (q .call) (seen n c r) g
