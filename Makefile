@@ -1,6 +1,6 @@
 # make run      an appliance in small: diallers over the proved table, in seconds once the library is proved
-# make test     the gate: the library linked and called from C and Rust, the Rust original beside it; and then, from
-#               nothing, every crate proved, every must-fail edit refused, every program run
+# make test     the gate: from nothing, every crate proved, every must-fail edit refused, every program run
+# make native   the library linked and called from C and Rust, and the Rust original beside it
 # make archive  target/native/libeidrovang.a, to be linked with include/eidrovang.h
 # make c-test   the library called from C
 # make oracle   the whole comparison with the Rust original, in minutes
@@ -13,7 +13,7 @@
 SEED ?= 1
 ARCHIVE = target/native/libeidrovang.a
 
-.PHONY: run tour test archive c-test oracle bench fmt kit
+.PHONY: run tour test native archive c-test oracle bench fmt kit
 
 run: kit
 	@if command -v cargo >/dev/null; then $(MAKE) --no-print-directory $(ARCHIVE) && \
@@ -28,10 +28,11 @@ tour: kit
 # What runs before rt ci fails the run by its exit status; the last line is rt's own.
 test: kit
 	@rt fmt --check
-	@$(MAKE) --no-print-directory archive c-test
+	@rt ci
+
+native: archive c-test
 	@scripts/oracle-tests
 	@scripts/host-tests
-	@rt ci
 
 archive: kit
 	@echo "proving the library and building it for this machine (some minutes) .."
