@@ -1,4 +1,3 @@
-pub mod Readying
 pub mod Leaving
 pub mod Listeners
 pub mod Ended

@@ -388,7 +388,7 @@ pub fn readiness(
 {
     match table::admission(words, bytes, tokens, wakes, releases, n, c) {
         Verdict::Refused(no) => promise::refused(no),
-        Verdict::Accepted => ending::readiness_admitted(
+        Verdict::Accepted => readying::readiness_admitted(
             words,
             bytes,
             tokens,

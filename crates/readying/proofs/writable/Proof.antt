@@ -1,11 +1,11 @@
 use borrow.Author.Needs.{needs}
-use Rattle.ending.proofs.writable.Statement.{statement}
-use Rattle.ending.proofs.writable.Tie as tie
-use Rattle.ending.proofs.writable.Reads as reads
-use Rattle.ending.proofs.writable.Lts as lts
-use Rattle.ending.proofs.has_room.Reads as has-room-reads
+use Rattle.readying.proofs.writable.Statement.{statement}
+use Rattle.readying.proofs.writable.Tie as tie
+use Rattle.readying.proofs.writable.Reads as reads
+use Rattle.readying.proofs.writable.Lts as lts
+use Rattle.readying.proofs.has_room.Reads as has-room-reads
 use Rattle.storage.proofs.load.Reads as load-reads
-use Rattle.ending.proofs.Readying.{shut-outbox, some-room, no-room}
+use Rattle.readying.proofs.Readying.{shut-outbox, some-room, no-room}
 
 -- src/lib.rt:51:9
 returns : tie.Need-returns

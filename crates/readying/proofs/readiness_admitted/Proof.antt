@@ -1,15 +1,15 @@
 use borrow.Author.Needs.{needs}
-use Rattle.ending.proofs.readiness_admitted.Statement.{statement}
-use Rattle.ending.proofs.readiness_admitted.Tie as tie
-use Rattle.ending.proofs.readiness_admitted.Reads as reads
-use Rattle.ending.proofs.readiness_admitted.Lts as lts
-use Rattle.ending.proofs.ready.Reads as ready-reads
+use Rattle.readying.proofs.readiness_admitted.Statement.{statement}
+use Rattle.readying.proofs.readiness_admitted.Tie as tie
+use Rattle.readying.proofs.readiness_admitted.Reads as reads
+use Rattle.readying.proofs.readiness_admitted.Lts as lts
+use Rattle.readying.proofs.ready.Reads as ready-reads
 use Rattle.promise.proofs.accepted.Reads as accepted-reads
 use Rattle.promise.proofs.refused.Reads as refused-reads
 use Rattle.storage.proofs.handles.is_live.Reads as is-live-reads
 use Rattle.storage.proofs.handles.slot_of.Reads as slot-of-reads
 use Rattle.storage.proofs.load.Reads as load-reads
-use Rattle.ending.proofs.Readying.{stale, closed-never, of-unbound, of-bound, of-empty, of-waiting, of-connected}
+use Rattle.readying.proofs.Readying.{stale, closed-never, of-unbound, of-bound, of-empty, of-waiting, of-connected}
 use Rattle.promise.proofs.Known.{known}
 use Rattle.promise.proofs.Asked.{live-in}
 

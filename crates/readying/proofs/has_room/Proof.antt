@@ -1,10 +1,10 @@
 use borrow.Author.Needs.{needs}
-use Rattle.ending.proofs.has_room.Statement.{statement}
-use Rattle.ending.proofs.has_room.Tie as tie
-use Rattle.ending.proofs.has_room.Reads as reads
-use Rattle.ending.proofs.has_room.Lts as lts
+use Rattle.readying.proofs.has_room.Statement.{statement}
+use Rattle.readying.proofs.has_room.Tie as tie
+use Rattle.readying.proofs.has_room.Reads as reads
+use Rattle.readying.proofs.has_room.Lts as lts
 use Rattle.inbox.proofs.Inbox.queued.Reads as queued-reads
-use Rattle.ending.proofs.Readying.{room-is}
+use Rattle.readying.proofs.Readying.{room-is}
 
 -- src/lib.rt:34:26
 enum-told : tie.Need-enum-told

@@ -1,13 +1,13 @@
 use borrow.Author.Needs.{needs}
-use Rattle.ending.proofs.ready.Statement.{statement}
-use Rattle.ending.proofs.ready.Tie as tie
-use Rattle.ending.proofs.ready.Reads as reads
-use Rattle.ending.proofs.ready.Lts as lts
-use Rattle.ending.proofs.readable.Reads as readable-reads
-use Rattle.ending.proofs.writable.Reads as writable-reads
+use Rattle.readying.proofs.ready.Statement.{statement}
+use Rattle.readying.proofs.ready.Tie as tie
+use Rattle.readying.proofs.ready.Reads as reads
+use Rattle.readying.proofs.ready.Lts as lts
+use Rattle.readying.proofs.readable.Reads as readable-reads
+use Rattle.readying.proofs.writable.Reads as writable-reads
 use Rattle.storage.proofs.handles.is_open.Reads as is-open-reads
 use Rattle.storage.proofs.handles.slot_of.Reads as slot-of-reads
-use Rattle.ending.proofs.Readying.{peer-gone, peer-in, both-ends, sum-fits}
+use Rattle.readying.proofs.Readying.{peer-gone, peer-in, both-ends, sum-fits}
 
 -- src/lib.rt:62:9
 is-open-requires : tie.Need-is-open-requires

@@ -1,10 +1,10 @@
 use borrow.Author.Needs.{needs}
-use Rattle.ending.proofs.readable.Statement.{statement}
-use Rattle.ending.proofs.readable.Tie as tie
-use Rattle.ending.proofs.readable.Reads as reads
-use Rattle.ending.proofs.readable.Lts as lts
+use Rattle.readying.proofs.readable.Statement.{statement}
+use Rattle.readying.proofs.readable.Tie as tie
+use Rattle.readying.proofs.readable.Reads as reads
+use Rattle.readying.proofs.readable.Lts as lts
 use Rattle.inbox.proofs.Inbox.queued.Reads as queued-reads
-use Rattle.ending.proofs.Readying.{some-bytes, shut-inbox, no-bytes}
+use Rattle.readying.proofs.Readying.{some-bytes, shut-inbox, no-bytes}
 
 -- src/lib.rt:24:8
 queued-requires : tie.Need-queued-requires

@@ -44,7 +44,7 @@ use Rattle.promise.proofs.Known.{Known, known, refused-done, listener-range, in
 use Rattle.promise.proofs.Kept.{keeps-same}
 use Rattle.promise.proofs.Changed.{fit-same, rows-kept, accepted-done}
 use Rattle.promise.proofs.Live.{Live, live, Opened, opened, not-closed, state-seen, stale-run, live-run}
-use Rattle.ending.specs.Parts.{readableOf, roomIn, writableIn, readyIn}
+use Rattle.readying.specs.Parts.{readableOf, roomIn, writableIn, readyIn}
 
 -- ── The parts ──
 
