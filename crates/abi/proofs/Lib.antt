@@ -1,9 +1,3 @@
 pub mod Sizes
 pub mod Headers
-pub mod Zeros
-pub mod Cleared
-pub mod Addresses
-pub mod RoundTrip
 pub mod Limits
-pub mod Lines
-pub mod Results

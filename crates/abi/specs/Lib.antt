@@ -1,4 +1,3 @@
-pub mod Address
 pub mod Shutdown
 pub mod Header
 pub mod Size

@@ -4,7 +4,7 @@ use mathlib.Core.List.{List, [], _∷_, _++_, map}
 use Rattle.laws.specs.All.{All}
 use Rattle.rules.proofs.Lines as calls
 use Rattle.syscall.proofs.Lines as control
-use Rattle.abi.proofs.Lines as addresses
+use Rattle.address.proofs.Lines as addresses
 use Rattle.cases.proofs.Lines as storage
 
 pub data Line : Type 0 where

@@ -7,9 +7,9 @@ use lib.ListN.{length, take, drop, length-take, length-drop}
 use Rattle.words.specs.Numbers.{numberOf}
 use Rattle.words.specs.declared.Errno.{Errno}
 use Rattle.words.specs.declared.Verdict.{Verdict}
-use Rattle.abi.specs.Address.{Address, addressOf, pathIn, refusalIn, upToZero, ZeroFrom}
-use Rattle.abi.proofs.Zeros.{front}
-use Rattle.abi.proofs.Addresses.{has-family, part-of}
+use Rattle.address.specs.Address.{Address, addressOf, pathIn, refusalIn, upToZero, ZeroFrom}
+use Rattle.address.proofs.Zeros.{front}
+use Rattle.address.proofs.Addresses.{has-family, part-of}
 use Rattle.eidrovang.specs.declared.plain.EidPath.{EidPath}
 use Rattle.eidrovang.specs.Numbers.{pathNumbers, Shown}
 

@@ -6,8 +6,8 @@ use Prim.Native.Nat.{ℕ}
 use lib.IntN.{ℤ}
 use Rattle.laws.proofs.Unique.{unique}
 use Rattle.words.specs.Numbers.{refusalOf}
-use Rattle.abi.specs.Address.{Wrote}
-use Rattle.abi.proofs.Results.{wrote-unique}
+use Rattle.address.specs.Address.{Wrote}
+use Rattle.address.proofs.Results.{wrote-unique}
 use Rattle.syscall.specs.Promise.{Parsed, SendParsed, Encoded}
 use Rattle.syscall.proofs.Results.{parsed-unique, send-unique, encoded-unique}
 use Rattle.eidrovang.specs.declared.plain.EidNumber.{EidNumber}

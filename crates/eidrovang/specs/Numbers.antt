@@ -9,7 +9,7 @@ use Rattle.words.specs.declared.Errno.{Errno}
 use Rattle.words.specs.declared.Errno.the-variants.{EINVAL}
 use Rattle.words.specs.declared.Verdict.{Verdict}
 use Rattle.words.specs.declared.Answer.{Answer}
-use Rattle.abi.specs.Address.{Address, addressOf, pathIn}
+use Rattle.address.specs.Address.{Address, addressOf, pathIn}
 use Rattle.abi.specs.declared.MsgHdr.{MsgHdr}
 use Rattle.abi.specs.declared.Message.{Message}
 use Rattle.abi.specs.declared.ShutdownHow.{ShutdownHow}

@@ -1,7 +1,7 @@
 // The calls that need no table: addresses, message headers, control bytes.
 ghost use mathlib.Core.Path.{_≡_};
 ghost use Rattle.utf8.specs.Syntax.{isUtf8};
-ghost use Rattle.abi.specs.Address.{lengthOf, Wrote};
+ghost use Rattle.address.specs.Address.{lengthOf, Wrote};
 ghost use Rattle.abi.specs.Header.{messageOf, iovecCountOf, controlLenOf};
 ghost use Rattle.abi.specs.Size.{alignOf, lenOf, spaceOf, rightsSpaceOf, rightsOf, rightsCountOf};
 ghost use Rattle.abi.specs.Shutdown.{howOf};
@@ -15,7 +15,7 @@ use abi::Made;
 use abi::Message;
 use abi::MsgHdr;
 use abi::ShutdownHow;
-use abi::SockAddrUn;
+use address::SockAddrUn;
 use words::Answer;
 use words::Errno;
 use words::Verdict;

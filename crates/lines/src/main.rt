@@ -1,5 +1,5 @@
 // The lines of document 01 that are run, not proved: each prints what it does and what came of it.
-use abi::SockAddrUn;
+use address::SockAddrUn;
 use libc::STDOUT_FILENO;
 
 fn say(text: &[u8]) {

@@ -1,5 +1,5 @@
 // A short tour of what stands so far: an address is written, read back, and refused.
-use abi::SockAddrUn;
+use address::SockAddrUn;
 use libc::STDOUT_FILENO;
 
 fn say(text: &[u8]) {

@@ -1,5 +1,5 @@
 -- The first i are zeros, and the others as they were.
-use Rattle.abi.proofs.Cleared.{one-more, all}
+use Rattle.address.proofs.Cleared.{one-more, all}
 use mathlib.Core.Path.{_≡_}
 use mathlib.Core.List.{_++_}
 use Prim.Native.Nat.{_-_, _≤_}
@@ -7,8 +7,8 @@ use native.Mathlib.Omega.{arith}
 use borrow.Author.Needs.{needs}
 use borrow.Author.Fill.{fill-none}
 use lib.ListN.{length, drop, replicate, length-set}
-use Rattle.abi.proofs.clear.Statement.{statement}
-use Rattle.abi.proofs.clear.Tie as tie
+use Rattle.address.proofs.clear.Statement.{statement}
+use Rattle.address.proofs.clear.Tie as tie
 
 abbrev Inv-loop : tie.InvT-loop
 Inv-loop s₀ i₀ s i = (i ≤ length s₀) × (length s ≡ length s₀) × (s ≡ replicate i 0 ++ drop i s₀)

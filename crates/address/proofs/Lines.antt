@@ -6,7 +6,7 @@ use Rattle.laws.specs.All.{All}
 use Rattle.words.specs.Numbers.{refusalOf}
 use Rattle.le.specs.Le.{le}
 use Rattle.utf8.specs.Syntax.{has, starts, follow, passes, isUtf8}
-use Rattle.abi.specs.Address.{upToZero, named, addressOf, pathIn, refusalIn}
+use Rattle.address.specs.Address.{upToZero, named, addressOf, pathIn, refusalIn}
 
 -- an address, the number it is refused with (0: it is not), and the path it shows
 pub record Line : Type 0 where

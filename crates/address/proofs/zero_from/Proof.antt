@@ -3,10 +3,10 @@ use mathlib.Core.Path.{_≡_, refl}
 use Prim.Native.Nat.{_+_, _-_, _≤_}
 use borrow.Author.Needs.{needs}
 use lib.ListN.{length, drop}
-use Rattle.abi.specs.Address.{upToZero}
-use Rattle.abi.proofs.Zeros.{found, on, none}
-use Rattle.abi.proofs.zero_from.Statement.{statement}
-use Rattle.abi.proofs.zero_from.Tie as tie
+use Rattle.address.specs.Address.{upToZero}
+use Rattle.address.proofs.Zeros.{found, on, none}
+use Rattle.address.proofs.zero_from.Statement.{statement}
+use Rattle.address.proofs.zero_from.Tie as tie
 
 abbrev Inv-loop : tie.InvT-loop
 Inv-loop s at i₀ i = (i ≤ length s) × (at + length (upToZero (drop at s)) ≡ i + length (upToZero (drop i s)))

@@ -1,7 +1,7 @@
-use Rattle.abi.proofs.Addresses.{none, has-family, part-of}
+use Rattle.address.proofs.Addresses.{none, has-family, part-of}
 use borrow.Author.Needs.{needs}
-use Rattle.abi.proofs.SockAddrUn.path_of.Statement.{statement}
-use Rattle.abi.proofs.SockAddrUn.path_of.Tie as tie
+use Rattle.address.proofs.SockAddrUn.path_of.Statement.{statement}
+use Rattle.address.proofs.SockAddrUn.path_of.Tie as tie
 
 path-refusal-requires : tie.Need-path-refusal-requires
 path-refusal-requires c κs = search needs

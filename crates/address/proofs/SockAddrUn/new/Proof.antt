@@ -1,8 +1,8 @@
 -- The family, then the path, then zeros.
-use Rattle.abi.proofs.Addresses.{no-room, long-path, bad-path, wrote}
+use Rattle.address.proofs.Addresses.{no-room, long-path, bad-path, wrote}
 use borrow.Author.Needs.{needs}
-use Rattle.abi.proofs.SockAddrUn.new.Statement.{statement}
-use Rattle.abi.proofs.SockAddrUn.new.Tie as tie
+use Rattle.address.proofs.SockAddrUn.new.Statement.{statement}
+use Rattle.address.proofs.SockAddrUn.new.Tie as tie
 
 returns : tie.Need-returns
 returns c = search no-room

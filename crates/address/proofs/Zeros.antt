@@ -10,7 +10,7 @@ use lib.Dec.{eqb}
 use lib.ListN.{length, getD, take, drop, drop-of-length-le}
 use lib.Seq.{drop-cons}
 use Rattle.laws.proofs.Tests.{cond-both}
-use Rattle.abi.specs.Address.{upToZero, ZeroFrom}
+use Rattle.address.specs.Address.{upToZero, ZeroFrom}
 
 pub at-zero : (s : List ℕ) (i : ℕ) → i < length s → getD s i 0 ≡ 0 → upToZero (drop i s) ≡ []
 unfolding upToZero

@@ -12,8 +12,8 @@ use lib.Seq.{take-append-add, take-all}
 use Rattle.words.specs.declared.Answer.{Answer}
 use Rattle.le.specs.Le.{le}
 use Rattle.utf8.specs.Syntax.{isUtf8}
-use Rattle.abi.specs.Address.{upToZero, Address, named, addressOf, written, lengthOf}
-use Rattle.abi.proofs.Addresses.{named-good}
+use Rattle.address.specs.Address.{upToZero, Address, named, addressOf, written, lengthOf}
+use Rattle.address.proofs.Addresses.{named-good}
 
 -- no byte of p is zero
 abbrev pub ZeroFree : List ℕ → Type 0

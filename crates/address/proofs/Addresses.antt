@@ -17,8 +17,8 @@ use Rattle.words.specs.declared.Answer.{Answer}
 use Rattle.laws.proofs.Lists.{mid-is, put-back}
 use Rattle.le.specs.Le.{le, bytes}
 use Rattle.utf8.specs.Syntax.{isUtf8}
-use Rattle.abi.specs.Address.{upToZero, ZeroFrom, Address, named, addressOf, pathIn, refusalIn, newOf, written, afterNew, Wrote, lengthOf}
-use Rattle.abi.proofs.Zeros.{front}
+use Rattle.address.specs.Address.{upToZero, ZeroFrom, Address, named, addressOf, pathIn, refusalIn, newOf, written, afterNew, Wrote, lengthOf}
+use Rattle.address.proofs.Zeros.{front}
 
 -- ── What a path says ──
 

@@ -1,7 +1,7 @@
-use Rattle.abi.proofs.Addresses.{under-two, other-family, no-path, bad, fine}
+use Rattle.address.proofs.Addresses.{under-two, other-family, no-path, bad, fine}
 use borrow.Author.Needs.{needs}
-use Rattle.abi.proofs.SockAddrUn.path_refusal.Statement.{statement}
-use Rattle.abi.proofs.SockAddrUn.path_refusal.Tie as tie
+use Rattle.address.proofs.SockAddrUn.path_refusal.Statement.{statement}
+use Rattle.address.proofs.SockAddrUn.path_refusal.Tie as tie
 
 returns : tie.Need-returns
 returns c = search under-two

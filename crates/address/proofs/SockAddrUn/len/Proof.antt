@@ -1,7 +1,7 @@
-use Rattle.abi.proofs.Addresses.{short, long}
+use Rattle.address.proofs.Addresses.{short, long}
 use borrow.Author.Needs.{needs}
-use Rattle.abi.proofs.SockAddrUn.len.Statement.{statement}
-use Rattle.abi.proofs.SockAddrUn.len.Tie as tie
+use Rattle.address.proofs.SockAddrUn.len.Statement.{statement}
+use Rattle.address.proofs.SockAddrUn.len.Tie as tie
 
 returns : tie.Need-returns
 returns c = search short
