@@ -1,25 +1,20 @@
 -- The parts of close, return by return.
-use mathlib.Core.Path.{_≡_, refl, sym, ap, ap₂, _∙_, subst}
-use mathlib.Core.Logic.{_≢_}
-use mathlib.Core.Bool.{Bool, true, false, cond, not, true≢false}
+use mathlib.Core.Path.{_≡_, refl, sym, ap, _∙_, subst}
+use mathlib.Core.Bool.{Bool, true, false, cond, not}
 use mathlib.Core.List.{List, [], _∷_}
-use Prim.Native.Nat.{ℕ, suc, _+_, _*_, _^_, _≤_, _<_}
+use Prim.Native.Nat.{ℕ, _+_, _*_, _≤_, _<_}
 use native.Mathlib.Omega.{arith}
-use types.Run.{OneOf, miss}
-use denote.Enum.Declared
-use Rattle.storage.proofs.State
+use borrow.Author.Tests.{not-false}
 use lib.ListN.{length, getD, set, take}
 use lib.Seq.{sets, length-sets}
-use Rattle.inbox.specs.View.{count, itemsIn}
 use Rattle.inbox.specs.Promise.{Discards}
-use Rattle.inbox.specs.declared.Inbox.{Inbox}
 use Rattle.inbox.specs.declared.Discarded.{Discarded}
 use Rattle.rules.specs.Table as model
 use Rattle.rules.specs.Table.{slotOf}
-use Rattle.rules.specs.Outcome.{Call, refuse}
+use Rattle.rules.specs.Outcome.{Call}
 use Rattle.rules.specs.Ending as ending
 use Rattle.rules.specs.Ending.{closeAll, closeWakes, kept}
-use Rattle.rules.specs.Run.{run, onLive}
+use Rattle.rules.specs.Run.{run}
 use Rattle.ring.specs.Ring.{placeOf, queued}
 use Rattle.storage.specs.Layout.{part, tokensBase, queueBase}
 use Rattle.storage.specs.Cells.{cellAt, stateOf, storeAt, cellOf}
@@ -31,12 +26,14 @@ use Rattle.storage.specs.declared.State.{State}
 use Rattle.storage.specs.declared.State.the-variants.{Closed, Unbound, Bound, Listening, Connected}
 use Rattle.storage.specs.declared.Listener.{Listener}
 use Rattle.storage.specs.declared.Connection.{Connection}
-use Rattle.table.specs.Formed.{queueIn, rangesWell}
+use Rattle.table.specs.Formed.{queueIn}
 use Rattle.table.specs.Admission.{Admitted}
 use Rattle.promise.specs.Answers.{refusedWith, acceptedWith}
 use Rattle.promise.specs.Promise.{Lists, lists, Done}
 use Rattle.promise.specs.declared.Answer.{Answer}
-use Rattle.promise.proofs.Known.{Known, known, refused-done, inbox-range, listener-range}
+use Rattle.promise.proofs.Known.{Known, known, refused-done, listener-at}
+use Rattle.promise.proofs.Called.{Unconnected, not-connected}
+use Rattle.promise.proofs.Held.{inbox-in}
 use Rattle.promise.proofs.Live.{Live, live, not-closed, state-seen, stale-run}
 use Rattle.ending.specs.declared.Closing.{Closing}
 use Rattle.ending.specs.Leaving.{closedWith, peerIn, Ends, Fits, Serves, SoFar, connectionIn}
@@ -76,14 +73,11 @@ module _ (n c i g : ℕ) (k : Connection) (w w′ t wk rl rl′ : List ℕ) (d :
 
 -- ── end_server ──
 
-pub not-connected : (σ : State) → OneOf (0 ∷ 1 ∷ 2 ∷ 3 ∷ []) (Declared.tagOf Rattle.storage.proofs.State.the-type σ) → (k : Connection) → σ ≢ Connected k
-not-connected σ h k e = miss (0 ∷ 1 ∷ 2 ∷ 3 ∷ []) 4 tt (subst (λ (x : State). OneOf (0 ∷ 1 ∷ 2 ∷ 3 ∷ []) (Declared.tagOf Rattle.storage.proofs.State.the-type x)) e h)
-
 module _ (n c : ℕ) (w : List ℕ) (x i : ℕ) (sv : Serves n c w x) (ei : i ≡ slotOf x) (sl : Slot) (es : sl ≡ record { generation = cellAt w i .generation; state = stateOf (cellAt w i) }) where
   state-at : sl .state ≡ stateOf (cellAt w (slotOf x))
   state-at = ap (λ (y : Slot). y .state) es ∙ ap (λ (y : ℕ). stateOf (cellAt w y)) ei
 
-  pub serves-always : {A : Type 0} → OneOf (0 ∷ 1 ∷ 2 ∷ 3 ∷ []) (Declared.tagOf Rattle.storage.proofs.State.the-type (sl .state)) → A
+  pub serves-always : {A : Type 0} → Unconnected (sl .state) → A
   serves-always d = absurd (not-connected (sl .state) d (sv .server) (state-at ∙ sv .is-server))
 
   module _ (k : Connection) (ek : sl .state ≡ Connected k) where
@@ -116,7 +110,7 @@ module _ (n c : ℕ) (s : Store) (kn : Known n c s) (h : ℕ) (lv : Live n c s h
       (ap (λ (y : Closing). y .wakes) ed ∙ ap length (sym cw)) (ap (λ (y : Closing). y .releases) ed) (let z = ap (λ (y : Closing). y .wakes) ed in omega arith)
 
   pub ring-range : (q .head < n) × (q .pending ≤ n)
-  ring-range = let z = listener-range n c q (subst (λ (σ : State). rangesWell n c σ ≡ true) is (kn .ranges (slotOf h) (lv .within))) in (z .2, z .3)
+  ring-range = let z = listener-at kn (lv .within) is in (z .2, z .3)
 
 -- ── close ──
 
@@ -167,17 +161,13 @@ module _ (n c : ℕ) (s : Store) (wk rl : List ℕ) (h : ℕ) (b : Bool) (eb : b
       er
 
   pub listener-told : (q : Listener) → sl .state ≡ Listening q → (liveIn n (s .words) h ≡ true) × (stateOf (cellAt (s .words) (slotOf h)) ≡ Listening q) × (sl .generation ≡ cellAt (s .words) (slotOf h) .generation)
-  listener-told q e = (sym eb ∙ yes b t, is-state (Listening q) e, generation-is)
-    where
-      yes : (x : Bool) → not x ≡ false → x ≡ true
-      yes true z = refl
-      yes false z = absurd (true≢false z)
+  listener-told q e = (sym eb ∙ not-false b t, is-state (Listening q) e, generation-is)
 
   module _ (k : Connection) (ek : sl .state ≡ Connected k) where
     pub socket-fits : Fits c k
     socket-fits =
-        let z = inbox-range n c k (subst (λ (σ : State). rangesWell n c σ ≡ true) (is-state (Connected k) ek) (kn .ranges (slotOf h) (lv .within))) in
-        record { head-in = z .0; bytes-in = z .1; first-in = z .2; items-in = z .3 }
+        let z = inbox-in kn (lv .within) (is-state (Connected k) ek) in
+        record { head-in = z .head-in; bytes-in = z .fits; first-in = z .first-in; items-in = z .items-in }
 
     pub socket-within : i < n
     socket-within = let z = lv .within in omega arith
@@ -275,9 +265,6 @@ left-first {n} {c} {i} {h} {q} {w} {b} {t} g gen w₁ wk rl eg ew =
 -- what its parts ask
 live-true : (n c : ℕ) (w b t : List ℕ) (h : ℕ) → liveIn n w h ≡ true → Live n c (lent w b t) h
 live-true n c w b t h l = live n c (lent w b t) h true (sym l) refl
-
-pub live-slot : {n c : ℕ} {w b t : List ℕ} {x y : ℕ} → Admitted n c (lent w b t) x y → (h : ℕ) → liveIn n w h ≡ true → (i : ℕ) → i ≡ slotOf h → 8 + 16 * i + 16 ≤ length w
-live-slot {n} {c} {w} {b} {t} a h l i ei = let z = live-true n c w b t h l .within in let y = a .words in omega arith
 
 pub heads : {n c : ℕ} {w b t : List ℕ} {x y : ℕ} → Admitted n c (lent w b t) x y → (h : ℕ) (q : Listener) → liveIn n w h ≡ true → stateOf (cellAt w (slotOf h)) ≡ Listening q → (q .head < n) × (q .pending ≤ n) × (n ≤ 1024)
 heads {n} {c} {w} {b} {t} a h q l e =

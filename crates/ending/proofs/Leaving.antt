@@ -1,16 +1,15 @@
 -- close: one socket after the other.
 use mathlib.Core.Path.{_≡_, refl, sym, ap, ap₂, _∙_, subst}
-use mathlib.Core.Logic.{_≢_, _⊎_, inl, inr}
-use mathlib.Core.Bool.{Bool, true, false, cond, not, _&&_, true≢false, false≢true}
-use mathlib.Core.List.{List, [], _∷_, _++_, append-nil, append-assoc, List·Memᴰ, List·Memᴰ·head, List·Memᴰ·tail, Memᴰ·append-left, Memᴰ·append-right}
-use Prim.Native.Nat.{ℕ, suc, _+_, _*_, _^_, _≤_, _<_}
+use mathlib.Core.Logic.{_≢_, inl, inr}
+use mathlib.Core.Bool.{Bool, true, false, cond, false≢true}
+use mathlib.Core.List.{List, [], _∷_, _++_, append-nil, append-assoc, List·Memᴰ, List·Memᴰ·head, Memᴰ·append-left, Memᴰ·append-right}
+use Prim.Native.Nat.{ℕ, suc, _+_, _≤_, _<_}
 use native.Mathlib.Decide.{ℕ-discrete as decEq}
 use native.Mathlib.Omega.{arith}
-use lib.Dec.{leb, ltb, eqb}
 use lib.ListN.{length, getD, set, length-append}
-use lib.Seq.{sets, length-sets}
+use lib.Seq.{sets}
 use Rattle.inbox.specs.View as inbox
-use Rattle.inbox.specs.View.{count, itemsIn}
+use Rattle.inbox.specs.View.{itemsIn}
 use Rattle.inbox.proofs.Shows.{length-items, items-are-all}
 use Rattle.rules.specs.Table as model
 use Rattle.rules.specs.Table.{Table, at, put, closed, slotOf, handle, handleAt, isOpen, leave}
@@ -18,41 +17,39 @@ use Rattle.rules.specs.Inbox.{allItems}
 use Rattle.rules.specs.Outcome.{Call, Outcome, answer, openOne}
 use Rattle.rules.specs.Ending as ending
 use Rattle.rules.specs.Ending.{closeAll, closeWakes, kept, doClose}
-use Rattle.rules.specs.Run.{run, onLive}
+use Rattle.rules.specs.Run.{run}
 use Rattle.rules.specs.WellFormed.{wellFormed}
 use Rattle.rules.proofs.YesNo.{agree}
 use Rattle.rules.proofs.YesNo as yesno
 use Rattle.rules.proofs.Formed.{Formed}
 use Rattle.rules.proofs.Frame.{open-at}
 use Rattle.ring.specs.Ring.{placeOf, queued}
-use Rattle.ring.proofs.Queued.{queued-length}
-use Rattle.storage.specs.Layout.{part, tokensBase, placesBase, ringBase}
+use Rattle.storage.specs.Layout.{part, tokensBase, placesBase}
 use Rattle.storage.specs.Cells.{cellAt, stateOf, storeAt, cellOf}
 use Rattle.storage.specs.Rows.{Store, Row, rowAt, rows, lent, withCell, Roomy, Around}
 use Rattle.storage.specs.View.{view, show, showIn}
 use Rattle.storage.specs.Finding.{openIn, occupied}
 use Rattle.storage.specs.declared.Cell.{Cell}
 use Rattle.storage.specs.declared.State.{State}
-use Rattle.storage.specs.declared.State.the-variants.{Closed, Unbound, Bound, Listening, Connected}
+use Rattle.storage.specs.declared.State.the-variants.{Closed, Listening, Connected}
 use Rattle.storage.specs.declared.Listener.{Listener}
 use Rattle.storage.specs.declared.Connection.{Connection}
 use Rattle.storage.proofs.Coding.{back, back-gen}
 use Rattle.storage.proofs.Framing.{store-rows}
 use Rattle.storage.proofs.Around.{around-same, around-then, roomy-around, store-around}
 use Rattle.storage.proofs.Pasted.{length-part}
-use Rattle.storage.proofs.Viewed.{put-view, gen-at, open-view, size-view, seen, at-view}
+use Rattle.storage.proofs.Viewed.{put-view, gen-at, open-view, seen}
 use Rattle.table.specs.Formed.{queueIn, rangesWell, tied, tiedState}
-use Rattle.table.proofs.Links.{Entry, Entries, entries-of, queue-at, queue-long, index-mem}
-use Rattle.promise.specs.Answers.{refusedWith, acceptedWith}
+use Rattle.table.proofs.Links.{Entry, Entries, entries-of, queue-at, index-mem}
 use Rattle.promise.specs.Hidden.{hiddenIn, hiddenAfter, roomAfter}
-use Rattle.promise.specs.Promise.{Lists, lists, Stored, Done}
+use Rattle.promise.specs.Promise.{lists, Stored, Done}
 use Rattle.promise.specs.declared.Answer.{Answer}
-use Rattle.promise.proofs.Known.{Known, known, inbox-range, listener-range}
-use Rattle.promise.proofs.Kept.{row-changed, row-other, other-state, connected-inj}
-use Rattle.promise.proofs.Changed.{Fit, fit-same, fields-closed, rows-stored}
-use Rattle.promise.proofs.Live.{Live, Opened, opened, live-run, state-seen}
+use Rattle.promise.proofs.Known.{Known, listener-at, queue-length}
+use Rattle.promise.proofs.Kept.{row-changed, row-other, other-state}
+use Rattle.promise.proofs.Changed.{Fit, fit-same, fields-closed, rows-stored, released-done}
+use Rattle.promise.proofs.Live.{Live, opened, live-run, state-seen}
 use Rattle.ending.specs.declared.Closing.{Closing}
-use Rattle.ending.specs.Leaving.{closedWith, peerIn, Ends, Fits, Serves, Shut, SoFar}
+use Rattle.ending.specs.Leaving.{closedWith, peerIn, Ends, Fits, Shut, SoFar}
 
 -- ── Lists ──
 
@@ -123,10 +120,6 @@ shut-same : (hs : List ℕ) (j : ℕ) (r r′ : Row) → Shut hs j r r′ → st
 shut-same hs j r r′ (inl e) d = e
 shut-same hs j r r′ (inr z) d = absurd (d (ap (λ (y : Row). stateOf (y .cell)) (z .3) ∙ back (r .cell .generation) Closed))
 
-pub queue-length-at : (n c : ℕ) (s : Store) (l : ℕ) (q : Listener) → Roomy n c s → Formed (view n c s) → l < n → q .head < n → q .pending ≤ n → length (queued (queueIn n (s .words) l) (q .head) (q .pending)) ≡ q .pending
-queue-length-at n c s l q f g hl hh hp =
-    let z = queue-long n c s f g l hl in queued-length (queueIn n (s .words) l) (q .head) (omega arith) (q .pending) (omega arith)
-
 module _ (n c : ℕ) (s s′ : Store) (call : Call) (k : Known n c s) (a : Around n c s s′) (v : view n c s′ ≡ run (view n c s) call .next) (hs : List ℕ)
     (shut : (j : ℕ) → j < n → Shut hs j (rowAt n c s j) (rowAt n c s′ j)) where
   good-after : Formed (view n c s′)
@@ -139,7 +132,7 @@ module _ (n c : ℕ) (s s′ : Store) (call : Call) (k : Known n c s) (a : Aroun
       let same-l : rowAt n c s′ l ≡ rowAt n c s l = shut-same hs l (rowAt n c s l) (rowAt n c s′ l) (shut l hl) (λ z. other-state (sym e ∙ z) (λ y. omega arith)) in
       let was : stateOf (cellAt (s .words) l) ≡ Listening q = ap (λ (r : Row). stateOf (r .cell)) (sym same-l) ∙ e in
       let old : Entries n (s .words) l q = entries-of n (s .words) l q (subst (λ (σ : State). tiedState n (s .words) l σ ≡ true) was (k .ties l hl)) in
-      let rg = listener-range n c q (subst (λ (σ : State). rangesWell n c σ ≡ true) was (k .ranges l hl)) in
+      let rg = listener-at k hl was in
       record {
         each = λ i hi.
             let p : ℕ = placeOf n (q .head + i) in
@@ -147,7 +140,7 @@ module _ (n c : ℕ) (s s′ : Store) (call : Call) (k : Known n c s) (a : Aroun
             let en : Entry n (s .words) l p x = old .each i hi in
             let ring-same : queueIn n (s′ .words) l ≡ queueIn n (s .words) l = ap (λ (r : Row). r .queue) same-l in
             let f′ : Roomy n c s′ = roomy-around a (k .roomy) in
-            let long : i < length (queued (queueIn n (s′ .words) l) (q .head) (q .pending)) = rw (queue-length-at n c s′ l q f′ good-after hl (rg .2) (rg .3)) hi in
+            let long : i < length (queued (queueIn n (s′ .words) l) (q .head) (q .pending)) = rw (queue-length n c s′ l q f′ good-after hl (rg .2) (rg .3)) hi in
             let first-in : List·Memᴰ (getD (queued (queueIn n (s′ .words) l) (q .head) (q .pending)) i 0) (queued (queueIn n (s′ .words) l) (q .head) (q .pending)) = index-mem _ i long in
             let is-x : getD (queued (queueIn n (s′ .words) l) (q .head) (q .pending)) i 0 ≡ x = queue-at n c s′ f′ good-after l q i hl (rg .2) (rg .3) hi ∙ ap (λ (r : List ℕ). getD r p 0) ring-same in
             let mine = seen n c s′ l (Listening q) hl e in
@@ -319,23 +312,6 @@ module _ (n c : ℕ) (s : Store) (kn : Known n c s) (h g : ℕ) (hh : slotOf h <
 
 -- ── All have closed ──
 
-closed-answer : (o : Outcome) (t′ : Table) (ws rs : List ℕ) (n c : ℕ) (s s′ : Store) (l l′ : Lists) (d : Closing) (r : Answer) → o ≡ answer t′ 0 ws rs → Stored n c s s′ o
-    → l′ .wakes ≡ sets (l .wakes) 0 ws → l′ .releases ≡ sets (l .releases) 0 rs → d .wakes ≡ length ws → d .releases ≡ length rs
-    → r ≡ closedWith d → Done o n c s s′ l l′ r
-closed-answer o t′ ws rs n c s s′ l l′ d r eo st ew el dw dr er =
-    record {
-      refusal-is = rw (eo, er) refl;
-      value-is = rw (eo, er) refl;
-      flags-are = rw (eo, er) refl;
-      item-count = rw (eo, er) refl;
-      wake-count = rw (eo, er) dw;
-      release-count = rw (eo, er) dr;
-      wake-list = rw eo ew;
-      release-list = rw eo el;
-      accepted = λ z. st;
-      refused = λ z. absurd (z (ap (λ (x : Outcome). x .no) eo));
-    }
-
 pub all-done : (n c : ℕ) (s : Store) (kn : Known n c s) (h : ℕ) (e f : ℕ) (w′ wk wk′ rl rl′ : List ℕ) (d : Closing) (r : Answer) → Live n c s h
     → SoFar n c s (h ∷ ending.queued (model.stateOf (view n c s) h)) e f w′ wk wk′ rl rl′ d
     → r ≡ closedWith d
@@ -347,4 +323,4 @@ all-done n c s kn h e f w′ wk wk′ rl rl′ d r lv so er =
     let o-is : run t (Call.Close h) ≡ answer (cl .next) 0 (cl .wakes) (cl .releases) = live-run n c s h (doClose t h) lv in
     let st : Stored n c s (lent w′ (s .bytes) (s .tokens)) (run t (Call.Close h)) =
     shut-stored n c s (lent w′ (s .bytes) (s .tokens)) (Call.Close h) kn (so .around) (so .shows ∙ sym (ap (λ (o : Outcome). o .next) o-is)) (h ∷ ending.queued (model.stateOf t h)) (so .rows-are) in
-    closed-answer (run t (Call.Close h)) (cl .next) (cl .wakes) (cl .releases) n c s (lent w′ (s .bytes) (s .tokens)) (lists wk rl) (lists wk′ rl′) d r o-is st (so .wakes-are) (so .releases-are) (so .wake-count) (so .release-count) er
+    released-done (run t (Call.Close h)) (cl .next) 0 (cl .wakes) (cl .releases) n c s (lent w′ (s .bytes) (s .tokens)) (lists wk rl) (lists wk′ rl′) (d .wakes) (d .releases) r o-is st (so .wakes-are) (so .releases-are) (so .wake-count) (so .release-count) er

@@ -1,43 +1,40 @@
 -- close of a listener: its pending servers, oldest first.
 use mathlib.Core.Path.{_≡_, refl, sym, ap, ap₂, _∙_, subst}
-use mathlib.Core.Logic.{_≢_, _⊎_, inl, inr, ⊎-elim}
-use mathlib.Core.Bool.{Bool, true, false, cond, not, _&&_, true≢false, false≢true}
+use mathlib.Core.Logic.{_⊎_, inl, inr, ⊎-elim}
+use mathlib.Core.Bool.{true}
 use mathlib.Core.List.{List, [], _∷_, _++_, List·Memᴰ, List·Memᴰ·head, List·Memᴰ·tail, List·Memᴰ·cases-cons, List·Memᴰ·not-nil, Memᴰ·cast}
-use Prim.Native.Nat.{ℕ, zero, suc, _+_, _*_, _≤_, _<_}
+use Prim.Native.Nat.{ℕ, zero, suc, _+_, _≤_, _<_}
 use native.Mathlib.Nat.{not-suc-le-zero}
 use native.Mathlib.Omega.{arith}
 use lib.ListN.{length, getD, take, drop}
-use lib.Seq.{sets, length-sets, take-suc, take-all, getD-take, getD-drop}
-use Rattle.inbox.specs.View.{count}
+use lib.Seq.{take-suc, take-all, getD-take, getD-drop}
 use Rattle.rules.specs.Table as model
-use Rattle.rules.specs.Table.{Table, at, slotOf, handle, handleAt, isOpen}
+use Rattle.rules.specs.Table.{slotOf, isOpen}
 use Rattle.rules.specs.Outcome.{Call}
 use Rattle.rules.specs.Ending as ending
 use Rattle.rules.specs.Run.{run}
 use Rattle.rules.proofs.Frame.{open-same}
 use Rattle.rules.proofs.Queues.{Once}
 use Rattle.ring.specs.Ring.{placeOf, queued}
-use Rattle.ring.proofs.Queued.{queued-length}
 use Rattle.storage.specs.Layout.{part, queueBase}
-use Rattle.storage.specs.Cells.{cellAt, stateOf, cellOf}
-use Rattle.storage.specs.Rows.{Store, Row, rowAt, lent, withCell}
+use Rattle.storage.specs.Cells.{cellAt, stateOf}
+use Rattle.storage.specs.Rows.{Store, Row, rowAt, lent}
 use Rattle.storage.specs.View.{view, showIn}
-use Rattle.storage.specs.declared.Cell.{Cell}
 use Rattle.storage.specs.declared.State.{State}
-use Rattle.storage.specs.declared.State.the-variants.{Closed, Unbound, Bound, Listening, Connected}
+use Rattle.storage.specs.declared.State.the-variants.{Listening, Connected}
 use Rattle.storage.specs.declared.Listener.{Listener}
 use Rattle.storage.specs.declared.Connection.{Connection}
-use Rattle.table.specs.Formed.{queueIn, rangesWell, tied, tiedState}
-use Rattle.table.specs.Admission.{Admitted}
-use Rattle.table.proofs.Links.{Entry, Entries, entries-of, queue-at, queue-long, index-mem, place-ring}
-use Rattle.promise.specs.Promise.{Lists, lists, Done}
+use Rattle.table.specs.Formed.{queueIn, tied, tiedState}
+use Rattle.table.proofs.Links.{Entry, entries-of, queue-at, index-mem, place-ring}
+use Rattle.promise.specs.Promise.{lists, Done}
 use Rattle.promise.specs.declared.Answer.{Answer}
-use Rattle.promise.proofs.Known.{Known, listener-range, inbox-range}
+use Rattle.promise.proofs.Known.{Known, listener-at, queue-length}
 use Rattle.promise.proofs.Kept.{other-state}
+use Rattle.promise.proofs.Held.{inbox-in}
 use Rattle.promise.proofs.Live.{Live, state-seen}
 use Rattle.ending.specs.declared.Closing.{Closing}
 use Rattle.ending.specs.Leaving.{closedWith, Ends, Fits, Serves, Shut, SoFar, connectionIn}
-use Rattle.ending.proofs.Leaving.{one-more, all-done, queue-length-at}
+use Rattle.ending.proofs.Leaving.{one-more, all-done}
 
 -- ── Lists ──
 
@@ -70,10 +67,10 @@ module _ (n c : ℕ) (s : Store) (kn : Known n c s) (h : ℕ) (lv : Live n c s h
   line = queued (queueIn n (s .words) (slotOf h)) (q .head) (q .pending)
 
   ranged : (q .name ≤ 255) × (q .backlog < 4294967296) × (q .head < n) × (q .pending ≤ n)
-  ranged = listener-range n c q (subst (λ (σ : State). rangesWell n c σ ≡ true) is (kn .ranges (slotOf h) (lv .within)))
+  ranged = listener-at kn (lv .within) is
 
   long : length line ≡ q .pending
-  long = queue-length-at n c s (slotOf h) q (kn .roomy) (kn .good) (lv .within) (ranged .2) (ranged .3)
+  long = queue-length n c s (slotOf h) q (kn .roomy) (kn .good) (lv .within) (ranged .2) (ranged .3)
 
   queue-is : ending.queued (model.stateOf (view n c s) h) ≡ line
   unfolding ending.queued showIn rowAt
@@ -133,12 +130,12 @@ module _ (n c : ℕ) (s : Store) (kn : Known n c s) (h : ℕ) (lv : Live n c s h
 
     pub next-serves : Serves n c w x
     next-serves =
-        let z = inbox-range n c (en .server) (subst (λ (σ : State). rangesWell n c σ ≡ true) (en .is-server) (kn .ranges (slotOf x) (en .within))) in
+        let z = inbox-in kn (en .within) (en .is-server) in
         record {
           within = en .within;
           server = en .server;
           is-server = ap stateOf same-cell ∙ en .is-server;
-          fits = record { head-in = z .0; bytes-in = z .1; first-in = z .2; items-in = z .3 };
+          fits = record { head-in = z .head-in; bytes-in = z .fits; first-in = z .first-in; items-in = z .items-in };
         }
 
     pub next-closed : (w′ wk′ rl′ : List ℕ) (r : Closing) → Ends n (slotOf x) (cellAt w (slotOf x) .generation) (connectionIn (stateOf (cellAt w (slotOf x)))) w w′ (s .tokens) wk wk′ rl rl′ d r

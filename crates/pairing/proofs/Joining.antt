@@ -36,13 +36,13 @@ use Rattle.storage.proofs.Pasted.{set-paste}
 use Rattle.storage.proofs.Framing.{store-rows, entry-rows}
 use Rattle.storage.proofs.Around.{store-around, entry-around, around-then, roomy-around}
 use Rattle.storage.proofs.Viewed.{put-view, seen, gen-at}
-use Rattle.table.specs.Formed.{queueIn, ahead, fieldsWell, noName, noQueue, pairFields, inboxRange, rangesWell, tied, tiedState}
+use Rattle.table.specs.Formed.{queueIn, ahead, inboxRange, rangesWell, tied, tiedState}
 use Rattle.table.proofs.Links.{Entry, Entries, entries-of, place-ring, ahead-place, queue-long}
 use Rattle.promise.specs.Hidden.{hiddenIn, hiddenAfter, fromQueue, queueOn, fromInbox, roomAfter}
 use Rattle.promise.specs.Promise.{Stored}
-use Rattle.promise.proofs.Known.{Known, listener-range}
+use Rattle.promise.proofs.Known.{Known, listener-range, listener-at}
 use Rattle.promise.proofs.Kept.{row-changed, row-other, other-state, connected-inj, listening-inj}
-use Rattle.promise.proofs.Changed.{Fit, fit-same, fields-listening, rows-stored}
+use Rattle.promise.proofs.Changed.{Fit, fit-same, fields-listening, rows-stored, placed, fields-connected}
 use Rattle.pairing.specs.Pairs.{newEnd, oneMore, pairIn, queueUp, joined}
 use Rattle.pairing.proofs.Pigeons.{Different, missed}
 
@@ -79,15 +79,15 @@ becomes n c s s′ h i r σ ei er es =
 
 -- ── How the new rows fit ──
 
-end-fields : (g p l x : ℕ) → (l ≡ 0 → x ≡ 0) → fieldsWell (cellOf g (Connected (newEnd p l x))) ≡ true
-unfolding fieldsWell noName noQueue pairFields cellOf
-end-fields g p l x f = cond-both (λ (b : Bool). b ≡ true) (eqb l 0) (λ e. eq-eqb x 0 (f (eqb-true l 0 e))) (λ e. refl)
+end-placed : (p l x : ℕ) → (l ≡ 0 → x ≡ 0) → placed (newEnd p l x) ≡ true
+unfolding placed
+end-placed p l x f = cond-both (λ (b : Bool). b ≡ true) (eqb l 0) (λ e. eq-eqb x 0 (f (eqb-true l 0 e))) (λ e. refl)
 
 end-fit : (n c : ℕ) (r : Row) (g p l x : ℕ) → 0 < c → show r .state ≡ model.State.Unbound → (l ≡ 0 → x ≡ 0) → Fit n c r (withCell (cellOf g (Connected (newEnd p l x))) r)
 unfolding rangesWell inboxRange hiddenIn hiddenAfter fromInbox roomAfter showIn cellOf stateOf dist
 end-fit n c r g p l x hc un pl =
     record {
-      fields = end-fields g p l x pl;
+      fields = fields-connected g (newEnd p l x) (end-placed p l x pl);
       ranges = rw (lt-ltb 0 c hc, le-leb 0 c (omega arith));
       numbers = rw un refl;
       room = refl;
@@ -156,7 +156,7 @@ module _ (n c : ℕ) (s : Store) (k : Known n c s) (h l j : ℕ) (q : Listener) 
   -- ── Numbers ──
 
   range : (q .name ≤ 255) × (q .backlog < 4294967296) × (q .head < n) × (q .pending ≤ n)
-  range = listener-range n c q (subst (λ (σ : State). rangesWell n c σ ≡ true) listens (k .ranges l hl))
+  range = listener-at k hl listens
 
   entries : Entries n (s .words) l q
   unfolding tied

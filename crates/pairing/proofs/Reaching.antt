@@ -7,8 +7,6 @@ use native.Mathlib.Omega.{arith}
 use lib.ListN.{length, take}
 use lib.Seq.{sets}
 use borrow.Author.Tests.{le-leb, lt-leb, not-false}
-use denote.Enum.Declared.{tagOf}
-use types.Run.{OneOf, miss}
 use Rattle.ring.specs.Ring.{queued}
 use Rattle.ring.proofs.Queued.{queued-length}
 use Rattle.rules.specs.Table as model
@@ -26,14 +24,12 @@ use Rattle.storage.specs.declared.Listener.{Listener}
 use Rattle.storage.specs.declared.Connection.{Connection}
 use Rattle.storage.specs.declared.State.{State}
 use Rattle.storage.specs.declared.State.the-variants.{Closed, Unbound, Bound, Listening, Connected}
-use Rattle.storage.proofs.State.{the-type}
 use Rattle.storage.proofs.Viewed.{at-none, seen, gen-at, holder-view}
-use Rattle.table.specs.Formed.{rangesWell}
 use Rattle.table.proofs.Links.{queue-long}
 use Rattle.promise.specs.Answers.{refusedWith, acceptedWith}
 use Rattle.promise.specs.Promise.{Lists, lists, Stored, Done}
 use Rattle.promise.specs.declared.Answer.{Answer}
-use Rattle.promise.proofs.Known.{Known, refused-done, listener-range}
+use Rattle.promise.proofs.Known.{Known, refused-done, listener-at}
 use Rattle.promise.proofs.Changed.{accepted-done}
 use Rattle.promise.proofs.Free.{Free, none-free, free-found}
 use Rattle.promise.proofs.Live.{Live, live, not-closed, state-seen, stale-name, no-name, long-name, named-run}
@@ -92,9 +88,6 @@ module _ (n c : ℕ) (s : Store) (ls : Lists) (h : ℕ) (m : List ℕ) (r : Answ
 
 -- ── The socket of that name ──
 
-pub not-listening : (σ : State) → OneOf (0 ∷ 1 ∷ 2 ∷ 4 ∷ []) (tagOf the-type σ) → (q : Listener) → σ ≡ Listening q → ⊥
-not-listening σ o q e = miss (0 ∷ 1 ∷ 2 ∷ 4 ∷ []) 3 tt (subst (λ (τ : State). OneOf (0 ∷ 1 ∷ 2 ∷ 4 ∷ []) (tagOf the-type τ)) e o)
-
 module _ (n c : ℕ) (s : Store) (ls : Lists) (h : ℕ) (m : List ℕ) (r : Answer) (k : Known n c s) (a : Caller n (s .words) h m) (l : ℕ)
     (el : l ≡ least n (λ i. holdsCell (cellAt (s .words) i) (part (nameBase n c i) 255 (s .bytes)) m)) where
   calls : Live n c s h
@@ -145,7 +138,7 @@ module _ (n c : ℕ) (s : Store) (ls : Lists) (h : ℕ) (m : List ℕ) (r : Answ
       listens = sym (ap (λ (y : Slot). y .state) ef) ∙ eq
 
       pub listener-in : (q .name ≤ 255) × (q .backlog < 4294967296) × (q .head < n) × (q .pending ≤ n)
-      listener-in = listener-range n c q (subst (λ (σ : State). rangesWell n c σ ≡ true) listens (k .ranges l hl))
+      listener-in = listener-at k hl listens
 
       abbrev pending : List ℕ
       pending = queued (rowAt n c s l .queue) (q .head) (q .pending)

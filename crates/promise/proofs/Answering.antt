@@ -1,5 +1,5 @@
 -- The answers of `refused` and `accepted`.
-use mathlib.Core.Path.{_≡_, refl}
+use mathlib.Core.Path.{_≡_}
 use Prim.Native.Nat.{ℕ}
 use Rattle.promise.specs.Answers.{refusedWith}
 use Rattle.promise.specs.declared.Answer.{Answer}

@@ -1,15 +1,12 @@
 -- An accepted call, row by row: what each row has to show for the storage after it to be as promised.
 use mathlib.Core.Path.{_≡_, refl, sym, ap, ap₂, _∙_, subst}
-use mathlib.Core.Logic.{_≢_, _⊎_, inl, inr}
-use mathlib.Core.Bool.{Bool, true, false, cond, not, _&&_}
-use mathlib.Core.List.{List, [], _∷_}
-use Prim.Native.Nat.{ℕ, suc, _+_, _-_, _*_, _≤_, _<_}
+use mathlib.Core.Bool.{Bool, true, false, cond}
+use mathlib.Core.List.{List, []}
+use Prim.Native.Nat.{ℕ, _-_, _<_}
 use native.Mathlib.Decide.{ℕ-discrete as decEq}
-use native.Mathlib.Omega.{arith}
-use lib.Dec.{leb, ltb, eqb}
-use lib.ListN.{length, getD, set}
+use lib.Dec.{leb, eqb}
+use lib.ListN.{length, set}
 use lib.Seq.{sets}
-use borrow.Author.Tests.{le-leb, ne-eqb, eq-eqb}
 use Rattle.rules.specs.Table as model
 use Rattle.rules.specs.Table.{at, put}
 use Rattle.rules.specs.Outcome.{Call, Outcome, answer}
@@ -17,17 +14,18 @@ use Rattle.rules.specs.Run.{run}
 use Rattle.rules.specs.WellFormed.{wellFormed}
 use Rattle.rules.proofs.YesNo.{agree, kept}
 use Rattle.rules.proofs.Formed.{Formed}
-use Rattle.storage.specs.Cells.{cellAt, stateOf, cellOf, flag}
-use Rattle.storage.specs.Rows.{Store, Row, rowAt, rows, Around}
-use Rattle.storage.specs.View.{view, show, showIn}
+use Rattle.storage.specs.Cells.{cellAt, stateOf, storeAt, cellOf, flag}
+use Rattle.storage.specs.Rows.{Store, Row, rowAt, rows, lent, withCell, Around}
+use Rattle.storage.specs.View.{view, show}
 use Rattle.storage.specs.declared.Cell.{Cell}
 use Rattle.storage.specs.declared.State.{State}
 use Rattle.storage.specs.declared.State.the-variants.{Closed, Unbound, Bound, Listening, Connected}
 use Rattle.storage.specs.declared.Listener.{Listener}
 use Rattle.storage.specs.declared.Connection.{Connection}
-use Rattle.storage.proofs.Around.{roomy-around}
+use Rattle.storage.proofs.Framing.{store-rows}
+use Rattle.storage.proofs.Around.{roomy-around, store-around, around-same}
 use Rattle.storage.proofs.Viewed.{at-view, put-view}
-use Rattle.table.specs.Formed.{fieldsWell, noName, noQueue, noPair, pairFields, rangesWell, tied}
+use Rattle.table.specs.Formed.{fieldsWell, noName, noQueue, noPair, pairFields, rangesWell}
 use Rattle.table.proofs.Links.{Entries, tied-up}
 use Rattle.promise.specs.Answers.{acceptedWith}
 use Rattle.promise.specs.Hidden.{hiddenIn, hiddenAfter, roomAfter}
@@ -50,7 +48,7 @@ fit-same n c r f g =
     record { fields = f; ranges = g; numbers = idle n c r (r .cell .generation) (stateOf (r .cell)) g; room = idle-room (r .room) (show r .state) }
 
 -- the words of a state that says no place, if it does not wait
-pub placed : Connection → Bool
+unfoldable pub placed : Connection → Bool
 placed k = cond (eqb (k .waits) 0) (eqb (k .place) 0) true
 
 flag-one : (b : Bool) → leb (flag b) 1 ≡ true
@@ -126,20 +124,48 @@ row-stored n c s s′ call i r k hi e a v fit keep =
       | no d ↦ subst (Keeps (rowAt n c s j)) (sym (row-other n c s s′ i r hi e j hj d)) (keeps-same (rowAt n c s j))
     ])
 
+-- a call that stores one cell
+pub cell-stored : (n c : ℕ) (s : Store) (call : Call) (i : ℕ) (k : Cell) (w′ : List ℕ) → Known n c s → i < n → w′ ≡ storeAt (s .words) i k
+    → run (view n c s) call .next ≡ put (view n c s) i (show (withCell k (rowAt n c s i))) → Fit n c (rowAt n c s i) (withCell k (rowAt n c s i)) → Keeps (rowAt n c s i) (withCell k (rowAt n c s i))
+    → Stored n c s (lent w′ (s .bytes) (s .tokens)) (run (view n c s) call)
+cell-stored n c s call i k w′ kn hi ew next fit keep =
+    row-stored n c s (lent w′ (s .bytes) (s .tokens)) call i (withCell k (rowAt n c s i)) kn hi
+    (ap (λ (x : List ℕ). rows n c (lent x (s .bytes) (s .tokens))) ew ∙ store-rows n c (s .words) (s .bytes) (s .tokens) (kn .roomy) i hi k)
+    (subst (λ (x : List ℕ). Around n c s (lent x (s .bytes) (s .tokens))) (sym ew) (store-around n c (s .words) (s .bytes) (s .tokens) (kn .roomy) i hi k)) next fit keep
+
+-- ── Nothing has changed ──
+
+pub same-stored : (n c : ℕ) (s : Store) (call : Call) → Known n c s → view n c s ≡ run (view n c s) call .next → Stored n c s s (run (view n c s) call)
+unfolding rowAt
+same-stored n c s call k v = rows-kept n c s s call k (around-same n c s) v (λ j hj. fit-same n c (rowAt n c s j) (k .fields j hj) (k .ranges j hj)) (λ j hj. keeps-same (rowAt n c s j))
+
 -- ── The answer ──
 
-pub accepted-done : (o : Outcome) (t′ : model.Table) (v : ℕ) (w : List ℕ) (n c : ℕ) (s s′ : Store) (l l′ : Lists) (r : Answer) → o ≡ answer t′ v w [] → Stored n c s s′ o
-    → l′ .wakes ≡ sets (l .wakes) 0 w → l′ .releases ≡ l .releases → r ≡ acceptedWith v (length w) → Done o n c s s′ l l′ r
-accepted-done o t′ v w n c s s′ l l′ r eo st ew el er =
+-- an accepted call without flags and items
+pub released-done : (o : Outcome) (t′ : model.Table) (v : ℕ) (w e : List ℕ) (n c : ℕ) (s s′ : Store) (l l′ : Lists) (x y : ℕ) (r : Answer) → o ≡ answer t′ v w e → Stored n c s s′ o
+    → l′ .wakes ≡ sets (l .wakes) 0 w → l′ .releases ≡ sets (l .releases) 0 e → x ≡ length w → y ≡ length e
+    → r ≡ record { refusal = 0; flags = 0; value = v; items = 0; wakes = x; releases = y } → Done o n c s s′ l l′ r
+released-done o t′ v w e n c s s′ l l′ x y r eo st ew el ex ey er =
     record {
       refusal-is = rw (eo, er) refl;
       value-is = rw (eo, er) refl;
       flags-are = rw (eo, er) refl;
       item-count = rw (eo, er) refl;
-      wake-count = rw (eo, er) refl;
-      release-count = rw (eo, er) refl;
+      wake-count = rw (eo, er) ex;
+      release-count = rw (eo, er) ey;
       wake-list = rw eo ew;
       release-list = rw eo el;
       accepted = λ z. st;
-      refused = λ z. absurd (z (ap (λ (x : Outcome). x .no) eo));
+      refused = λ z. absurd (z (ap (λ (u : Outcome). u .no) eo));
     }
+
+-- and without releases
+pub accepted-done : (o : Outcome) (t′ : model.Table) (v : ℕ) (w : List ℕ) (n c : ℕ) (s s′ : Store) (l l′ : Lists) (r : Answer) → o ≡ answer t′ v w [] → Stored n c s s′ o
+    → l′ .wakes ≡ sets (l .wakes) 0 w → l′ .releases ≡ l .releases → r ≡ acceptedWith v (length w) → Done o n c s s′ l l′ r
+accepted-done o t′ v w n c s s′ l l′ r eo st ew el er = released-done o t′ v w [] n c s s′ l l′ (length w) 0 r eo st ew el refl refl er
+
+-- a call that only answers
+pub unchanged : (n c : ℕ) (s : Store) (call : Call) (v : ℕ) (l : Lists) (r : Answer) → Known n c s → run (view n c s) call ≡ answer (view n c s) v [] [] → r ≡ acceptedWith v 0
+    → Done (run (view n c s) call) n c s s l l r
+unchanged n c s call v l r k e er =
+    accepted-done (run (view n c s) call) (view n c s) v [] n c s s l l r e (same-stored n c s call k (sym (ap (λ (o : Outcome). o .next) e))) refl refl er

@@ -1,15 +1,14 @@
 -- The lowest free slot.
-use mathlib.Core.Path.{_≡_, refl, sym, ap, _∙_, subst}
+use mathlib.Core.Path.{_≡_, refl, ap, _∙_}
 use mathlib.Core.Logic.{_≢_}
-use mathlib.Core.Bool.{Bool, true, false, cond, not, _&&_, true≢false, false≢true}
-use Prim.Native.Nat.{ℕ, zero, suc, _+_, _*_, _≤_, _<_}
+use mathlib.Core.Bool.{Bool, true, false, cond, not, false≢true}
+use Prim.Native.Nat.{ℕ, zero, suc, _≤_, _<_}
 use native.Mathlib.Omega.{arith}
-use lib.Dec.{leb, ltb}
+use lib.Dec.{ltb}
 use lib.ListN.{length}
 use borrow.Author.Tests.{ltb-true, le-leb, lt-leb}
 use Rattle.laws.proofs.Tests.{and-left, and-right}
-use Rattle.rules.specs.Table as model
-use Rattle.rules.specs.Table.{at, freeSlot, noSlot, newHandle, handle}
+use Rattle.rules.specs.Table.{at, freeSlot, noSlot}
 use Rattle.storage.specs.Cells.{cellAt, stateOf}
 use Rattle.storage.specs.Rows.{Store}
 use Rattle.storage.specs.View.{view}

@@ -1,27 +1,26 @@
 -- Calls that move no server into or out of a queue: the links of the storage stay.
 use mathlib.Core.Path.{_≡_, refl, sym, ap, ap₂, _∙_, subst}
 use mathlib.Core.Logic.{_≢_, _⊎_, inl, inr}
-use mathlib.Core.Bool.{Bool, true, false}
-use mathlib.Core.List.{List, [], _∷_}
-use Prim.Native.Nat.{ℕ, suc, _+_, _-_, _*_, _≤_, _<_}
+use mathlib.Core.Bool.{true}
+use mathlib.Core.List.{List}
+use Prim.Native.Nat.{ℕ, _+_, _-_, _<_}
 use native.Mathlib.Nat.{not-suc-le-zero}
 use native.Mathlib.Omega.{arith}
-use lib.ListN.{length, getD, set}
+use lib.ListN.{getD, set}
 use lib.Seq.{getD-set-same, getD-set-other}
 use Rattle.ring.specs.Ring.{placeOf}
 use Rattle.rules.specs.Table.{slotOf, handle}
 use Rattle.storage.specs.Cells.{cellAt, stateOf}
-use Rattle.storage.specs.Rows.{Store, Row, rowAt, rows, blank, Roomy, Around}
-use Rattle.storage.specs.View.{view}
+use Rattle.storage.specs.Rows.{Store, Row, rowAt, rows, blank}
 use Rattle.storage.specs.declared.Cell.{Cell}
 use Rattle.storage.specs.declared.State.{State}
 use Rattle.storage.specs.declared.State.the-variants.{Closed, Unbound, Bound, Listening, Connected}
 use Rattle.storage.specs.declared.Listener.{Listener}
 use Rattle.storage.specs.declared.Connection.{Connection}
 use Rattle.storage.proofs.Framing.{row-is, length-rows}
-use Rattle.table.specs.Formed.{queueIn, rangesWell, tied, tiedState}
+use Rattle.table.specs.Formed.{queueIn, tied, tiedState}
 use Rattle.table.proofs.Links.{Entry, Entries, entries-of}
-use Rattle.promise.proofs.Known.{Known, listener-range}
+use Rattle.promise.proofs.Known.{Known}
 
 -- ── One changed row ──
 

@@ -1,38 +1,38 @@
 -- What is known of an admitted table, and what shows that the storage after a call is as promised.
 use mathlib.Core.Path.{_≡_, refl, sym, ap, ap₂, _∙_, subst}
 use mathlib.Core.Logic.{_≢_}
-use mathlib.Core.Bool.{Bool, true, false, cond, not, _&&_}
-use mathlib.Core.List.{List, [], _∷_}
-use Prim.Native.Nat.{ℕ, suc, _+_, _-_, _*_, _%_, _^_, _≤_, _<_}
+use mathlib.Core.Bool.{true}
+use mathlib.Core.List.{List}
+use Prim.Native.Nat.{ℕ, _+_, _-_, _%_, _^_, _≤_, _<_}
 use native.Mathlib.Omega.{arith}
-use lib.Dec.{leb, ltb, eqb}
+use lib.Dec.{leb, ltb}
 use lib.ListN.{length, take, getD}
 use lib.Seq.{getD-take}
 use borrow.Author.Tests.{leb-true, ltb-true}
 use Rattle.laws.proofs.Tests.{and-three, and-four}
-use Rattle.ring.specs.Ring.{placeOf}
+use Rattle.ring.specs.Ring.{placeOf, queued}
 use Rattle.ring.proofs.Copying.{place-low}
+use Rattle.ring.proofs.Queued.{queued-length}
 use Rattle.inbox.specs.View.{count}
 use Rattle.rules.specs.Inbox.{allItems}
 use Rattle.rules.specs.Table as model
-use Rattle.rules.specs.Table.{at, isOpen}
+use Rattle.rules.specs.Table.{at}
 use Rattle.rules.specs.Outcome.{Call, Outcome, refuse}
 use Rattle.rules.specs.Run.{run}
 use Rattle.rules.specs.WellFormed.{every, wellFormed}
 use Rattle.rules.proofs.YesNo.{agree, kept, every-at, at-every}
 use Rattle.rules.proofs.Formed.{Formed}
-use Rattle.storage.specs.Layout.{sizesOf}
 use Rattle.storage.specs.Cells.{cellAt, stateOf}
-use Rattle.storage.specs.Rows.{Store, Row, rowAt, rows, Roomy, Around}
+use Rattle.storage.specs.Rows.{Store, Row, rowAt, Roomy, Around}
 use Rattle.storage.specs.View.{view, showIn}
 use Rattle.storage.specs.declared.State.{State}
 use Rattle.storage.specs.declared.State.the-variants.{Closed, Unbound, Bound, Listening, Connected}
 use Rattle.storage.specs.declared.Listener.{Listener}
 use Rattle.storage.specs.declared.Connection.{Connection}
 use Rattle.storage.proofs.Viewed.{seen}
-use Rattle.table.specs.Formed.{headerWell, fieldsWell, inboxRange, rangesWell, tied, tiedState, slotFormed, formed}
+use Rattle.table.specs.Formed.{headerWell, queueIn, fieldsWell, inboxRange, rangesWell, tied, slotFormed, formed}
 use Rattle.table.specs.Admission.{Admitted}
-use Rattle.table.proofs.Links.{Entries, entries-of}
+use Rattle.table.proofs.Links.{queue-long}
 use Rattle.promise.specs.Answers.{refusedWith}
 use Rattle.promise.specs.Hidden.{hiddenIn, hiddenAfter, fromQueue, queueOn, fromInbox, inboxOn, roomAfter, nameWritten}
 use Rattle.promise.specs.Promise.{Lists, Stored, Done}
@@ -121,20 +121,21 @@ stored n c s s′ call k a v p t =
 
 -- ── A slot that stays ──
 
-stay : (c k n : ℕ) → k < c → placeOf c (k + (n - n)) ≡ k
-stay c k n h = let e : k + (n - n) ≡ k = omega arith in ap (placeOf c) e ∙ sym (place-low c k h .0)
+-- of which nothing was taken
+pub stay : (c k x y : ℕ) → k < c → x ≤ y → placeOf c (k + (x - y)) ≡ k
+stay c k x y h l = let e : k + (x - y) ≡ k = omega arith in ap (placeOf c) e ∙ sym (place-low c k h .0)
 
 round : (a n : ℕ) → (a % 2 ^ 64 + (n - n)) % 2 ^ 64 ≡ a % 2 ^ 64
 round a n = omega arith
 
 pub queue-stays : (n : ℕ) (l : Listener) (q q′ : List ℕ) → l .head < n → length q ≡ length q′ → queueOn n (hiddenIn (Listening l)) q q′ ≡ hiddenIn (Listening l)
 unfolding queueOn hiddenIn
-queue-stays n l q q′ h e = rw (e, stay n (l .head) (length q′) h)
+queue-stays n l q q′ h e = rw (e, stay n (l .head) (length q′) (length q′) h (omega arith))
 
 pub inbox-stays : (c : ℕ) (k : Connection) (i : model.Inbox) → k .inbox .head < c → k .inbox .first < 256 → inboxOn c (hiddenIn (Connected k)) i i ≡ hiddenIn (Connected k)
 unfolding inboxOn hiddenIn
 inbox-stays c k i hb hf =
-    rw (stay c (k .inbox .head) (length (i .bytes)) hb, round (k .inbox .«written_total») (length (i .bytes)), round (k .inbox .«read_total») (length (i .bytes)), stay 256 (k .inbox .first) (length (allItems (i .groups))) hf)
+    rw (stay c (k .inbox .head) (length (i .bytes)) (length (i .bytes)) hb (omega arith), round (k .inbox .«written_total») (length (i .bytes)), round (k .inbox .«read_total») (length (i .bytes)), stay 256 (k .inbox .first) (length (allItems (i .groups))) (length (allItems (i .groups))) hf (omega arith))
 
 -- the ranges of a listener and of an inbox
 pub listener-range : (n c : ℕ) (l : Listener) → rangesWell n c (Listening l) ≡ true → (l .name ≤ 255) × (l .backlog < 4294967296) × (l .head < n) × (l .pending ≤ n)
@@ -142,6 +143,14 @@ unfolding rangesWell
 listener-range n c l e =
     let p = and-four (leb (l .name) 255) (ltb (l .backlog) 4294967296) (ltb (l .head) n) (leb (l .pending) n) e in
     (leb-true (l .name) 255 (p .0), ltb-true (l .backlog) 4294967296 (p .1), ltb-true (l .head) n (p .2), leb-true (l .pending) n (p .3))
+
+pub listener-at : {n c : ℕ} {s : Store} → Known n c s → {i : ℕ} → i < n → {l : Listener} → stateOf (cellAt (s .words) i) ≡ Listening l
+    → (l .name ≤ 255) × (l .backlog < 4294967296) × (l .head < n) × (l .pending ≤ n)
+listener-at {n} {c} k {i} h {l} e = listener-range n c l (subst (λ (σ : State). rangesWell n c σ ≡ true) e (k .ranges i h))
+
+-- what a listener has queued
+pub queue-length : (n c : ℕ) (s : Store) (i : ℕ) (l : Listener) → Roomy n c s → Formed (view n c s) → i < n → l .head < n → l .pending ≤ n → length (queued (queueIn n (s .words) i) (l .head) (l .pending)) ≡ l .pending
+queue-length n c s i l f g hi hh hp = let z = queue-long n c s f g i hi in queued-length (queueIn n (s .words) i) (l .head) (omega arith) (l .pending) (omega arith)
 
 pub inbox-range : (n c : ℕ) (k : Connection) → rangesWell n c (Connected k) ≡ true → (k .inbox .head < c) × (count (k .inbox) ≤ c) × (k .inbox .first < 256) × (k .inbox .items ≤ 256)
 unfolding rangesWell inboxRange

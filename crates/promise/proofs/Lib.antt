@@ -4,4 +4,6 @@ pub mod Kept
 pub mod Changed
 pub mod Free
 pub mod Live
+pub mod Called
+pub mod Held
 pub mod Asked

@@ -1,35 +1,27 @@
 -- A handle that the entries take, and one that they do not.
-use mathlib.Core.Path.{_≡_, refl, sym, ap, ap₂, _∙_, subst}
+use mathlib.Core.Path.{_≡_, refl, sym, ap, _∙_}
 use mathlib.Core.Logic.{_≢_}
-use mathlib.Core.Bool.{Bool, true, false, cond, not, _&&_, true≢false, false≢true}
+use mathlib.Core.Bool.{Bool, true, false, not, false≢true}
 use mathlib.Core.List.{List, [], _∷_}
-use Prim.Native.Nat.{ℕ, suc, _+_, _*_, _≤_, _<_}
+use Prim.Native.Nat.{ℕ, suc, _≤_, _<_}
 use native.Mathlib.Omega.{arith}
-use lib.Dec.{leb, ltb, eqb}
+use lib.Dec.{ltb, eqb}
 use lib.ListN.{length}
-use borrow.Author.Tests.{eqb-true, ltb-true, le-ltb, lt-ltb}
+use borrow.Author.Tests.{not-true, not-false, eqb-true, ltb-true, le-ltb, lt-ltb}
 use Rattle.laws.proofs.Tests.{and-left, and-right, and-three}
 use Rattle.rules.specs.Table as model
-use Rattle.rules.specs.Table.{Table, at, slotOf, handle, isOpen, isLive}
+use Rattle.rules.specs.Table.{slotOf, handle, isOpen, isLive}
 use Rattle.rules.specs.Inbox.{isNil}
-use Rattle.rules.specs.Outcome.{Call, Outcome, refuse, refuseIf}
-use Rattle.rules.specs.Run.{run, onLive, onName}
+use Rattle.rules.specs.Outcome.{Outcome, refuse, refuseIf}
+use Rattle.rules.specs.Run.{onLive, onName}
 use Rattle.storage.specs.Cells.{cellAt, stateOf}
 use Rattle.storage.specs.Rows.{Store, rowAt}
 use Rattle.storage.specs.View.{view, showIn}
 use Rattle.storage.specs.Finding.{occupied, waiting, openIn, liveIn}
 use Rattle.storage.specs.declared.State.{State}
-use Rattle.storage.specs.declared.State.the-variants.{Closed, Unbound, Bound, Listening, Connected}
+use Rattle.storage.specs.declared.State.the-variants.{Closed, Connected}
 use Rattle.storage.specs.declared.Connection.{Connection}
 use Rattle.storage.proofs.Viewed.{open-view, live-view, seen}
-
-bool-not : (r : Bool) → not r ≡ false → r ≡ true
-bool-not true e = refl
-bool-not false e = absurd (true≢false e)
-
-bool-yes : (r : Bool) → not r ≡ true → r ≡ false
-bool-yes true e = absurd (false≢true e)
-bool-yes false e = refl
 
 -- ── The socket of a live handle ──
 
@@ -44,7 +36,7 @@ pub record Live (n c : ℕ) (s : Store) (h : ℕ) : Type 0 where
 pub live : (n c : ℕ) (s : Store) (h : ℕ) (r : Bool) → r ≡ liveIn n (s .words) h → not r ≡ false → Live n c s h
 unfolding liveIn openIn
 live n c s h r e d =
-    let yes : liveIn n (s .words) h ≡ true = sym e ∙ bool-not r d in
+    let yes : liveIn n (s .words) h ≡ true = sym e ∙ not-false r d in
     let o : openIn n (s .words) h ≡ true = and-left (openIn n (s .words) h) (not (waiting (stateOf (cellAt (s .words) (slotOf h))))) yes in
     let p = and-three (ltb (slotOf h) n) (eqb (handle (cellAt (s .words) (slotOf h) .generation) (slotOf h)) h) (occupied (stateOf (cellAt (s .words) (slotOf h)))) o in
     record {
@@ -53,7 +45,7 @@ live n c s h r e d =
       opened = sym (open-view n c s h) ∙ o;
       whole = eqb-true (handle (cellAt (s .words) (slotOf h) .generation) (slotOf h)) h (p .1);
       used = p .2;
-      given = bool-yes _ (and-right (openIn n (s .words) h) (not (waiting (stateOf (cellAt (s .words) (slotOf h))))) yes);
+      given = not-true _ (and-right (openIn n (s .words) h) (not (waiting (stateOf (cellAt (s .words) (slotOf h))))) yes);
     }
 
 -- no live socket is closed, and a connected one waits for nothing
@@ -61,7 +53,7 @@ pub not-closed : {A : Type 0} (n c : ℕ) (s : Store) (h : ℕ) → Live n c s h
 not-closed n c s h l e = absurd (false≢true (sym (ap occupied e) ∙ l .used))
 
 pub waits-not : (n c : ℕ) (s : Store) (h : ℕ) (k : Connection) → Live n c s h → stateOf (cellAt (s .words) (slotOf h)) ≡ Connected k → k .waits ≡ 0
-waits-not n c s h k l e = eqb-true (k .waits) 0 (bool-not (eqb (k .waits) 0) (ap waiting (sym e) ∙ l .given))
+waits-not n c s h k l e = eqb-true (k .waits) 0 (not-false (eqb (k .waits) 0) (ap waiting (sym e) ∙ l .given))
 
 -- ── An open handle, pending or not ──
 
@@ -94,7 +86,7 @@ state-seen n c s h σ l e = ap (λ (x : model.Slot). x .state) (seen n c s (slot
 
 pub stale-run : (n c : ℕ) (s : Store) (h : ℕ) (r : Bool) (o : Outcome) → r ≡ liveIn n (s .words) h → not r ≡ true → onLive (view n c s) h o ≡ refuse (view n c s) 1
 unfolding onLive refuseIf
-stale-run n c s h r o e d = rw (sym (live-view n c s h) ∙ sym e ∙ bool-yes r d)
+stale-run n c s h r o e d = rw (sym (live-view n c s h) ∙ sym e ∙ not-true r d)
 
 pub live-run : (n c : ℕ) (s : Store) (h : ℕ) (o : Outcome) → Live n c s h → onLive (view n c s) h o ≡ o
 unfolding onLive refuseIf

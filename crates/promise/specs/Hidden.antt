@@ -1,8 +1,7 @@
 -- The numbers that the view forgets, and what a call makes of them: one function of the storage before and the table after. Where a pending server stands is
 -- settled by `formed` of crates/table (crates/cases/proofs/Unique.antt shows that nothing is left open).
 use Prim.Native.Nat.{ℕ, _+_, _-_, _%_, _^_}
-use mathlib.Core.Bool.{true, false}
-use mathlib.Core.List.{List, [], _∷_}
+use mathlib.Core.List.{List}
 use lib.ListN.{length}
 use lib.Seq.{sets}
 use Rattle.ring.specs.Ring.{placeOf}

@@ -1,28 +1,25 @@
 -- readiness
-use mathlib.Core.Path.{_≡_, refl, sym, ap, ap₂, _∙_, subst}
-use mathlib.Core.Logic.{_≢_}
-use mathlib.Core.Bool.{Bool, true, false, cond, not, _&&_, _||_, true≢false, false≢true}
-use mathlib.Core.List.{List, [], _∷_}
-use Prim.Native.Nat.{ℕ, suc, _+_, _*_, _^_, _≤_, _<_}
+use mathlib.Core.Path.{_≡_, refl, sym, ap, _∙_}
+use mathlib.Core.Bool.{Bool, true, false, cond, not, _&&_, _||_}
+use mathlib.Core.List.{List, []}
+use Prim.Native.Nat.{ℕ, _+_, _*_, _^_, _≤_, _<_}
 use native.Mathlib.Omega.{arith}
-use lib.Dec.{leb, ltb, eqb}
+use lib.Dec.{ltb, eqb}
 use lib.ListN.{length}
-use borrow.Author.Tests.{eq-eqb, ne-eqb}
-use Rattle.words.specs.declared.Handle.{Handle}
+use borrow.Author.Tests.{not-true, not-false, eq-eqb, ne-eqb}
 use Rattle.ring.specs.Ring.{queued}
-use Rattle.ring.proofs.Queued.{queued-length}
 use Rattle.inbox.specs.View as inbox
 use Rattle.inbox.specs.View.{count}
 use Rattle.inbox.proofs.Shows.{length-bytes}
 use Rattle.inbox.proofs.Kept.{none-at-all}
 use Rattle.rules.specs.Table as model
-use Rattle.rules.specs.Table.{Table, at, slotOf, isOpen}
+use Rattle.rules.specs.Table.{slotOf, isOpen}
 use Rattle.rules.specs.Inbox.{isNil}
-use Rattle.rules.specs.Outcome.{Call, Outcome, refuse, answer}
+use Rattle.rules.specs.Outcome.{Call, answer}
 use Rattle.rules.specs.Ending as ending
-use Rattle.rules.specs.Run.{run, onLive}
+use Rattle.rules.specs.Run.{run}
 use Rattle.storage.specs.Cells.{cellAt, stateOf}
-use Rattle.storage.specs.Rows.{Store, Row, rowAt, lent}
+use Rattle.storage.specs.Rows.{Store, rowAt}
 use Rattle.storage.specs.View.{view, showIn}
 use Rattle.storage.specs.Finding.{openIn, liveIn}
 use Rattle.storage.specs.declared.Slot.{Slot}
@@ -30,20 +27,15 @@ use Rattle.storage.specs.declared.State.{State}
 use Rattle.storage.specs.declared.State.the-variants.{Closed, Unbound, Bound, Listening, Connected}
 use Rattle.storage.specs.declared.Listener.{Listener}
 use Rattle.storage.specs.declared.Connection.{Connection}
-use Rattle.storage.proofs.Around.{around-same}
 use Rattle.storage.proofs.Finds.{open-slot}
-use Rattle.storage.proofs.Pasted.{length-part}
-use Rattle.storage.proofs.Strides.{row-before}
-use Rattle.storage.proofs.Viewed.{open-view, seen}
-use Rattle.table.specs.Formed.{rangesWell}
-use Rattle.table.specs.Admission.{Admitted}
+use Rattle.storage.proofs.Viewed.{open-view}
 use Rattle.promise.specs.Answers.{refusedWith, acceptedWith}
-use Rattle.promise.specs.Promise.{Lists, Stored, Done}
+use Rattle.promise.specs.Promise.{Lists, Done}
 use Rattle.promise.specs.declared.Answer.{Answer}
-use Rattle.promise.proofs.Known.{Known, known, refused-done, listener-range, inbox-range}
-use Rattle.promise.proofs.Kept.{keeps-same}
-use Rattle.promise.proofs.Changed.{fit-same, rows-kept, accepted-done}
-use Rattle.promise.proofs.Live.{Live, live, Opened, opened, not-closed, state-seen, stale-run, live-run}
+use Rattle.promise.proofs.Known.{Known, refused-done, listener-at, queue-length}
+use Rattle.promise.proofs.Changed.{unchanged}
+use Rattle.promise.proofs.Held.{ring-long, inbox-in}
+use Rattle.promise.proofs.Live.{Live, live, opened, not-closed, state-seen, stale-run, live-run}
 use Rattle.readying.specs.Parts.{readableOf, roomIn, writableIn, readyIn}
 
 -- ── The parts ──
@@ -81,23 +73,17 @@ module _ (c : ℕ) (w : List ℕ) (j : ℕ) (k : Connection) where
     unfolding writableIn
     no-room t = rw (e, room-at ∙ t)
 
-not-is : (r b : Bool) → not r ≡ b → r ≡ not b
-not-is true true e = absurd (false≢true e)
-not-is true false e = refl
-not-is false true e = refl
-not-is false false e = absurd (true≢false e)
-
 module _ (n c : ℕ) (w : List ℕ) (k : Connection) (r : Bool) (er : r ≡ openIn n w (k .peer .0)) where
   pub peer-gone : not r ≡ true → 5 ≡ readyIn n c w k
   unfolding readyIn
-  peer-gone t = rw (sym er ∙ not-is r true t)
+  peer-gone t = rw (sym er ∙ not-true r t)
 
   pub peer-in : not r ≡ false → 8 + 16 * n ≤ length w → (j : ℕ) → j ≡ slotOf (k .peer .0) → 8 + 16 * j + 16 ≤ length w
-  peer-in t l j ej = let z = open-slot n w (k .peer .0) (sym er ∙ not-is r false t) in omega arith
+  peer-in t l j ej = let z = open-slot n w (k .peer .0) (sym er ∙ not-false r t) in omega arith
 
   pub both-ends : not r ≡ false → (j a b : ℕ) → j ≡ slotOf (k .peer .0) → a ≡ readableOf k → b ≡ writableIn c w j k → a + b ≡ readyIn n c w k
   unfolding readyIn
-  both-ends t j a b ej ea eb = rw (sym er ∙ not-is r false t, ea, eb, ej)
+  both-ends t j a b ej ea eb = rw (sym er ∙ not-false r t, ea, eb, ej)
 
 bit-one : (b : Bool) → _≤_ (cond b 1 0) 1
 bit-one true = omega arith
@@ -114,36 +100,14 @@ sum-fits c w j k a b ea eb =
     let y = bit-two (not (k .«outbox_closed») && roomIn c (stateOf (cellAt w j))) in
     omega arith
 
--- ── Nothing changes ──
-
-pub unchanged : (n c : ℕ) (s : Store) (call : Call) (v : ℕ) (l : Lists) (r : Answer) → Known n c s → run (view n c s) call ≡ answer (view n c s) v [] [] → r ≡ acceptedWith v 0
-    → Done (run (view n c s) call) n c s s l l r
-unfolding rowAt
-unchanged n c s call v l r k e er =
-    accepted-done (run (view n c s) call) (view n c s) v [] n c s s l l r e
-    (rows-kept n c s s call k (around-same n c s) (sym (ap (λ (o : Outcome). o .next) e)) (λ j h. fit-same n c (rowAt n c s j) (k .fields j h) (k .ranges j h)) (λ j h. keeps-same (rowAt n c s j)))
-    refl refl er
-
 -- ── The answer ──
 
 -- the length of what is queued
 pub bytes-long : (n c : ℕ) (s : Store) (i : ℕ) (k : Connection) → Known n c s → i < n → stateOf (cellAt (s .words) i) ≡ Connected k → length (inbox.bytesOf (rowAt n c s i .ring) (k .inbox)) ≡ count (k .inbox)
-unfolding rowAt
 bytes-long n c s i k kn hi e =
-    let r = inbox-range n c k (subst (λ (σ : State). rangesWell n c σ ≡ true) e (kn .ranges i hi)) in
-    let z = kn .roomy .bytes in
-    let y = row-before c i n hi in
-    let lr : length (rowAt n c s i .ring) ≡ c = length-part (c * i) c (s .bytes) (omega arith) in
-    length-bytes (rowAt n c s i .ring) (k .inbox) (let x = r .0 in omega arith) (let x = r .1 in omega arith)
-
-pub queue-length : (n c : ℕ) (s : Store) (i : ℕ) (l : Listener) → Known n c s → i < n → stateOf (cellAt (s .words) i) ≡ Listening l → length (queued (rowAt n c s i .queue) (l .head) (l .pending)) ≡ l .pending
-unfolding rowAt
-queue-length n c s i l kn hi e =
-    let r = listener-range n c l (subst (λ (σ : State). rangesWell n c σ ≡ true) e (kn .ranges i hi)) in
-    let z = kn .roomy .words in
-    let y = row-before n i n hi in
-    let lq : length (rowAt n c s i .queue) ≡ n = length-part (8 + 272 * n + n * i) n (s .words) (omega arith) in
-    queued-length (rowAt n c s i .queue) (l .head) (let x = r .2 in omega arith) (l .pending) (let x = r .3 in omega arith)
+    let r = inbox-in kn hi e in
+    let lr = ring-long n c s (kn .roomy) i hi in
+    length-bytes (rowAt n c s i .ring) (k .inbox) (let x = r .head-in in omega arith) (let x = r .fits in omega arith)
 
 -- "the peer inbox has room"
 module _ (n c : ℕ) (s : Store) (kn : Known n c s) (j : ℕ) (hj : j < n) where
@@ -188,7 +152,10 @@ module _ (n c : ℕ) (s : Store) (l : Lists) (h : ℕ) (b : Bool) (eb : b ≡ li
 
     module _ (q : Listener) (e : sl .state ≡ Listening q) where
       nil-is : isNil (queued (rowAt n c s (slotOf h) .queue) (q .head) (q .pending)) ≡ eqb (q .pending) 0
-      nil-is = none-at-all _ ∙ ap (λ (x : ℕ). eqb x 0) (queue-length n c s (slotOf h) q a (lv .within) (is-state (Listening q) e))
+      unfolding rowAt
+      nil-is =
+          let z = listener-at a (lv .within) (is-state (Listening q) e) in
+          none-at-all _ ∙ ap (λ (x : ℕ). eqb x 0) (queue-length n c s (slotOf h) q (a .roomy) (a .good) (lv .within) (z .2) (z .3))
 
       pub of-empty : q .pending ≡ 0 → r ≡ acceptedWith 0 0 → Done (run (view n c s) (Call.Readiness h)) n c s s l l r
       unfolding ending.ready showIn

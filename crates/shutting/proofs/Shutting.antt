@@ -10,9 +10,7 @@ use native.Mathlib.Omega.{arith}
 use lib.IntN.{ℤ, pos, negsuc}
 use lib.ListN.{length, set}
 use lib.Seq.{sets}
-use borrow.Author.Tests.{not-false, ne-eqb, eqb-true}
-use types.Run.{OneOf, miss}
-use denote.Enum.Declared.{tagOf}
+use borrow.Author.Tests.{ne-eqb, eqb-true}
 use Rattle.words.specs.Integers.{equals}
 use Rattle.words.specs.Numbers.{numberOf}
 use Rattle.words.specs.declared.Errno.{Errno}
@@ -40,9 +38,8 @@ use Rattle.storage.specs.Finding.{openIn, liveIn}
 use Rattle.storage.specs.declared.Cell.{Cell}
 use Rattle.storage.specs.declared.Slot.{Slot}
 use Rattle.storage.specs.declared.State.{State}
-use Rattle.storage.specs.declared.State.the-variants.{Closed, Unbound, Bound, Listening, Connected}
+use Rattle.storage.specs.declared.State.the-variants.{Connected}
 use Rattle.storage.specs.declared.Connection.{Connection}
-use Rattle.storage.proofs.State as S
 use Rattle.storage.proofs.Framing.{store-rows}
 use Rattle.storage.proofs.Around.{store-around, around-then, roomy-around}
 use Rattle.storage.proofs.Viewed.{open-view, put-view}
@@ -53,10 +50,12 @@ use Rattle.promise.specs.declared.Answer.{Answer}
 use Rattle.promise.proofs.Known.{Known, known, refused-done}
 use Rattle.promise.proofs.Asked.{slot-in}
 use Rattle.promise.proofs.Kept.{Keeps, keeps-same, row-changed, row-other}
-use Rattle.promise.proofs.Changed.{Fit, fit-same, row-stored, rows-kept}
+use Rattle.promise.proofs.Changed.{Fit, fit-same, row-stored, rows-kept, released-done}
+use Rattle.promise.proofs.Called.{loadedAt, Unconnected, unconnected}
+use Rattle.promise.proofs.Held.{ring-long, places-long, tokens-long, Held, held, placed-same, connected-fit, connected-keeps, connected-put}
 use Rattle.promise.proofs.Live.{Live, live, opened, live-run, stale-run, state-seen}
 use Rattle.shutting.specs.Parts.{readsOf, writesOf, shutWith, endedWith, leftOf, droppedOf, Drops, Ends, Shuts}
-use Rattle.shutting.proofs.Ended.{left-range, left-shows, dropped-all, dropped-long, left-hidden, stays-hidden, Held, held, ended-fit, ended-keeps, ended-put}
+use Rattle.shutting.proofs.Ended.{left-range, left-shows, dropped-all, dropped-long, left-hidden, stays-hidden}
 
 -- ── The parts ──
 
@@ -99,22 +98,6 @@ module _ (t : Table) (h : ℕ) (rd wr : Bool) (p : ℕ) (i : model.Inbox) (x y :
   unfolding doShutdown openOne
   both-is t₂ o e₂ = rw (o, e₁, e₂) refl
 
-shut-done : (o : Outcome) (t′ : Table) (ws rs : List ℕ) (n c : ℕ) (s s′ : Store) (l l′ : Lists) (r : Answer) (m : ℕ) → o ≡ answer t′ 0 ws rs → Stored n c s s′ o
-    → l′ .wakes ≡ sets (l .wakes) 0 ws → l′ .releases ≡ sets (l .releases) 0 rs → m ≡ length rs → r ≡ shutWith (length ws) m → Done o n c s s′ l l′ r
-shut-done o t′ ws rs n c s s′ l l′ r m eo st ew el em er =
-    record {
-      refusal-is = rw (eo, er) refl;
-      value-is = rw (eo, er) refl;
-      flags-are = rw (eo, er) refl;
-      item-count = rw (eo, er) refl;
-      wake-count = rw (eo, er) refl;
-      release-count = rw (eo, er) em;
-      wake-list = rw eo ew;
-      release-list = rw eo el;
-      accepted = λ z. st;
-      refused = λ z. absurd (z (ap (λ (x : Outcome). x .no) eo));
-    }
-
 -- ── What the code leaves ──
 
 module _ (n c : ℕ) (w b t : List ℕ) (kn : Known n c (lent w b t)) (h i : ℕ) (k : Connection) (hd : Held n c (lent w b t) h i k) (rd wr : Bool) where
@@ -124,8 +107,11 @@ module _ (n c : ℕ) (w b t : List ℕ) (kn : Known n c (lent w b t)) (h i : ℕ
   abbrev row : Row
   row = rowAt n c (lent w b t) i
 
+  abbrev k₁ : Connection
+  k₁ = endedWith k (leftOf c rd (k .inbox)) rd wr
+
   abbrev cell₁ : Cell
-  cell₁ = cellOf (cellAt w i .generation) (Connected (endedWith k (leftOf c rd (k .inbox)) rd wr))
+  cell₁ = cellOf (cellAt w i .generation) (Connected k₁)
 
   abbrev row₁ : Row
   row₁ = withCell cell₁ (rowAt n c (lent w b t) i)
@@ -143,14 +129,20 @@ module _ (n c : ℕ) (w b t : List ℕ) (kn : Known n c (lent w b t)) (h i : ℕ
   unfolding rowAt
   says = hd .is-connected
 
+  lp : length (rowAt n c (lent w b t) i .places) ≡ 256
+  lp = places-long n c s (kn .roomy) i (hd .within)
+
+  lt : length (rowAt n c (lent w b t) i .tokens) ≡ 256
+  lt = tokens-long n c s (kn .roomy) i (hd .within)
+
   fit₁ : Fit n c (rowAt n c (lent w b t) i) row₁
   fit₁ =
-      ended-fit n c row (cellAt w i .generation) k says (leftOf c rd (k .inbox)) rd wr (hd .says) (left-range c rd (k .inbox) (hd .range))
-      (left-hidden c k rd rd wr (row .ring) (row .places) (row .tokens) (hd .ring-long) (hd .places-long) (hd .tokens-long) (hd .range))
+      connected-fit row row₁ (cellAt w i .generation) k k₁ says refl n c (placed-same k k₁ refl refl (hd .says)) (left-range c rd (k .inbox) (hd .range)) refl
+      (left-hidden c k rd rd wr (row .ring) (row .places) (row .tokens) (ring-long n c s (kn .roomy) i (hd .within)) lp lt (hd .range))
 
   keep₁ : Keeps (rowAt n c (lent w b t) i) row₁
   unfolding rowAt
-  keep₁ = ended-keeps n c (rowAt n c s i) (cellAt w i .generation) k (hd .is-connected) (leftOf c rd (k .inbox)) rd wr refl
+  keep₁ = connected-keeps (rowAt n c s i) row₁ (cellAt w i .generation) k k₁ (hd .is-connected) refl refl refl refl
 
   around₁ : Around n c (lent w b t) s₁
   around₁ = store-around n c w b t (kn .roomy) i (hd .within) cell₁
@@ -158,24 +150,20 @@ module _ (n c : ℕ) (w b t : List ℕ) (kn : Known n c (lent w b t)) (h i : ℕ
   rows₁ : rows n c s₁ ≡ set (rows n c (lent w b t)) i row₁
   rows₁ = store-rows n c w b t (kn .roomy) i (hd .within) cell₁
 
-  state-is : model.stateOf (view n c (lent w b t)) h ≡ model.State.Connected (k .peer .0) old (k .«inbox_closed») (k .«outbox_closed»)
-  unfolding model.stateOf showIn
-  state-is = ap (λ (j : ℕ). at (view n c s) j .state) (sym (hd .is-slot)) ∙ ap (λ (x : model.Slot). x .state) (hd .shown)
-
   next₁ : become (view n c (lent w b t)) h (model.State.Connected (k .peer .0) (cond rd nothing old) (k .«inbox_closed» || rd) (k .«outbox_closed» || wr)) ≡ t₁
   next₁ =
       ap (λ (q : model.Inbox). become (view n c s) h (model.State.Connected (k .peer .0) q (k .«inbox_closed» || rd) (k .«outbox_closed» || wr)))
       (sym (left-shows c rd (row .ring) (row .places) (row .tokens) (k .inbox)))
-      ∙ ended-put n c row (cellAt w i .generation) k says (leftOf c rd (k .inbox)) rd wr (view n c s) h i (hd .is-slot) (hd .shown)
+      ∙ connected-put row row₁ (cellAt w i .generation) k k₁ says refl refl (view n c s) h i (hd .is-slot) (hd .shown)
 
   items-are : droppedOf rd (part (tokensBase i) 256 t) (k .inbox) ≡ cond rd (allItems (old .groups)) []
   unfolding rowAt
-  items-are = dropped-all (row .places) (row .tokens) (k .inbox) (hd .places-long) (hd .tokens-long) (hd .range .first-in) (hd .range .items-in) rd
+  items-are = dropped-all (row .places) (row .tokens) (k .inbox) lp lt (hd .range .first-in) (hd .range .items-in) rd
 
   module _ (w₁ rl rl′ : List ℕ) (m : ℕ) (en : Ends c i (cellAt w i .generation) k rd wr w w₁ t rl rl′ m) where
     released-is : m ≡ length (cond rd (allItems (old .groups)) [])
     unfolding rowAt
-    released-is = en .released-are ∙ dropped-long (row .places) (row .tokens) (k .inbox) (hd .places-long) (hd .tokens-long) (hd .range .first-in) (hd .range .items-in) rd ∙ ap length items-are
+    released-is = en .released-are ∙ dropped-long (row .places) (row .tokens) (k .inbox) lp lt (hd .range .first-in) (hd .range .items-in) rd ∙ ap length items-are
 
     pub shut-alone : (wk : List ℕ) (r : Answer) → isOpen (view n c (lent w b t)) (k .peer .0) ≡ false → r ≡ shutWith 1 m
         → Shuts n c (lent w b t) (lent w₁ b t) h rd wr (lists wk rl) (lists (set wk 0 h) rl′) r
@@ -183,16 +171,19 @@ module _ (n c : ℕ) (w b t : List ℕ) (kn : Known n c (lent w b t)) (h i : ℕ
         record {
           shuts = λ call to.
               let eo : run (view n c s) call ≡ answer t₁ 0 (h ∷ []) (cond rd (allItems (old .groups)) []) =
-              to ∙ ap (doShutdown (view n c s) h rd wr) state-is ∙ alone-is (view n c s) h rd wr (k .peer .0) old (k .«inbox_closed») (k .«outbox_closed») t₁ next₁ o in
-              shut-done _ t₁ (h ∷ []) _ n c s (lent w₁ b t) (lists wk rl) (lists (set wk 0 h) rl′) r m eo
+              to ∙ ap (doShutdown (view n c s) h rd wr) (hd .state-is) ∙ alone-is (view n c s) h rd wr (k .peer .0) old (k .«inbox_closed») (k .«outbox_closed») t₁ next₁ o in
+              released-done _ t₁ 0 (h ∷ []) _ n c s (lent w₁ b t) (lists wk rl) (lists (set wk 0 h) rl′) _ m r eo
               (subst (λ (y : List ℕ). Stored n c s (lent y b t) (run (view n c s) call)) (sym (en .words))
               (row-stored n c s s₁ call i row₁ kn (hd .within) rows₁ around₁ (ap (λ (x : Outcome). x .next) eo) fit₁ keep₁))
-              refl (en .releases-it ∙ ap (sets rl 0) items-are) released-is er;
+              refl (en .releases-it ∙ ap (sets rl 0) items-are) refl released-is er;
         }
 
     module _ (j : ℕ) (k₂ : Connection) (hp : Held n c (lent w b t) (k .peer .0) j k₂) (apart : j ≢ i) where
+      abbrev k₃ : Connection
+      k₃ = endedWith k₂ (k₂ .inbox) wr rd
+
       abbrev cell₂ : Cell
-      cell₂ = cellOf (cellAt w j .generation) (Connected (endedWith k₂ (k₂ .inbox) wr rd))
+      cell₂ = cellOf (cellAt w j .generation) (Connected k₃)
 
       abbrev row₂ : Row
       row₂ = withCell cell₂ (rowAt n c (lent w b t) j)
@@ -209,12 +200,12 @@ module _ (n c : ℕ) (w b t : List ℕ) (kn : Known n c (lent w b t)) (h i : ℕ
 
       fit₂ : Fit n c (rowAt n c (lent w b t) j) row₂
       fit₂ =
-          ended-fit n c (rowAt n c s j) (cellAt w j .generation) k₂ peer-says (k₂ .inbox) wr rd (hp .says) (hp .range)
+          connected-fit (rowAt n c s j) row₂ (cellAt w j .generation) k₂ k₃ peer-says refl n c (placed-same k₂ k₃ refl refl (hp .says)) (hp .range) refl
           (stays-hidden c k₂ (inbox.view (rowAt n c s j .ring) (rowAt n c s j .places) (rowAt n c s j .tokens) (k₂ .inbox)) wr rd (hp .range))
 
       keep₂ : Keeps (rowAt n c (lent w b t) j) row₂
       unfolding rowAt
-      keep₂ = ended-keeps n c (rowAt n c s j) (cellAt w j .generation) k₂ (hp .is-connected) (k₂ .inbox) wr rd refl
+      keep₂ = connected-keeps (rowAt n c s j) row₂ (cellAt w j .generation) k₂ k₃ (hp .is-connected) refl refl refl refl
 
       around₂ : Around n c (lent w b t) s₂
       around₂ = around-then around₁ (store-around n c (storeAt w i cell₁) b t (roomy-around around₁ (kn .roomy)) j (hp .within) cell₂)
@@ -257,7 +248,7 @@ module _ (n c : ℕ) (w b t : List ℕ) (kn : Known n c (lent w b t)) (h i : ℕ
       next₂ =
           ap (λ (σ : model.State). become t₁ (k .peer .0) (closeEnds wr rd σ))
           (ap (λ (z : ℕ). at t₁ z .state) (sym (hp .is-slot)) ∙ ap (λ (x : model.Slot). x .state) peer-shown)
-          ∙ ended-put n c (rowAt n c s j) (cellAt w j .generation) k₂ peer-says (k₂ .inbox) wr rd t₁ (k .peer .0) j (hp .is-slot) peer-shown
+          ∙ connected-put (rowAt n c s j) row₂ (cellAt w j .generation) k₂ k₃ peer-says refl refl t₁ (k .peer .0) j (hp .is-slot) peer-shown
 
       pub shut-both : (w₂ wk : List ℕ) (r : Answer) → w₂ ≡ storeAt w₁ j cell₂ → r ≡ shutWith 2 m
           → Shuts n c (lent w b t) (lent w₂ b t) h rd wr (lists wk rl) (lists (set (set wk 0 h) 1 (k .peer .0)) rl′) r
@@ -265,40 +256,23 @@ module _ (n c : ℕ) (w b t : List ℕ) (kn : Known n c (lent w b t)) (h i : ℕ
           record {
             shuts = λ call to.
                 let eo : run (view n c s) call ≡ answer t₂ 0 (h ∷ k .peer .0 ∷ []) (cond rd (allItems (old .groups)) []) =
-                to ∙ ap (doShutdown (view n c s) h rd wr) state-is
+                to ∙ ap (doShutdown (view n c s) h rd wr) (hd .state-is)
                 ∙ both-is (view n c s) h rd wr (k .peer .0) old (k .«inbox_closed») (k .«outbox_closed») t₁ next₁ t₂ (hp .opens) next₂ in
                 let shown : view n c s₂ ≡ run (view n c s) call .next =
                 put-view n c s₁ s₂ j row₂ rows₂ ∙ ap (λ (u : Table). put u j (show row₂)) (put-view n c s s₁ i row₁ rows₁) ∙ sym (ap (λ (x : Outcome). x .next) eo) in
-                shut-done _ t₂ (h ∷ k .peer .0 ∷ []) _ n c s (lent w₂ b t) (lists wk rl) (lists (set (set wk 0 h) 1 (k .peer .0)) rl′) r m eo
+                released-done _ t₂ 0 (h ∷ k .peer .0 ∷ []) _ n c s (lent w₂ b t) (lists wk rl) (lists (set (set wk 0 h) 1 (k .peer .0)) rl′) _ m r eo
                 (subst (λ (y : List ℕ). Stored n c s (lent y b t) (run (view n c s) call)) (sym (ew ∙ ap (λ (y : List ℕ). storeAt y j cell₂) (en .words)))
                 (rows-kept n c s s₂ call kn around₂ shown fit (each Keeps keep₁ keep₂ (λ z hz. keeps-same (rowAt n c s z)))))
-                refl (en .releases-it ∙ ap (sets rl 0) items-are) released-is er;
+                refl (en .releases-it ∙ ap (sets rl 0) items-are) refl released-is er;
           }
 
 -- ── As the code has it ──
 
--- what `load` answers
-abbrev loadedAt : List ℕ → ℕ → Slot
-loadedAt w j = record { generation = cellAt w j .generation; state = stateOf (cellAt w j) }
-
--- the states that `let State::Connected(..) = .. else` leaves
-unconnected : (P : model.State → Type 0) → P model.State.Unbound → ((m : List ℕ) → P (model.State.Bound m)) → ((m : List ℕ) (b : ℕ) (q : List ℕ) → P (model.State.Listening m b q))
-    → (r : Row) (g : ℕ) (σ : State) → OneOf (0 ∷ 1 ∷ 2 ∷ 3 ∷ []) (tagOf S.the-type σ) → P (showIn r g σ .state)
-unfolding showIn
-unconnected P u d l r g Closed k = u
-unconnected P u d l r g Unbound k = u
-unconnected P u d l r g (Bound m) k = d _
-unconnected P u d l r g (Listening q) k = l _ _ _
-unconnected P u d l r g (Connected c) k = absurd (miss (0 ∷ 1 ∷ 2 ∷ 3 ∷ []) 4 tt k)
-
-no-peer : {A : Type 0} (p : ℕ) (r : Row) (g : ℕ) (σ : State) → OneOf (0 ∷ 1 ∷ 2 ∷ 3 ∷ []) (tagOf S.the-type σ) → peerOf (showIn r g σ .state) ≡ some p → A
+no-peer : {A : Type 0} (p : ℕ) (r : Row) (g : ℕ) (σ : State) → Unconnected σ → peerOf (showIn r g σ .state) ≡ some p → A
 unfolding peerOf
 no-peer {A} p r g σ k = unconnected (λ τ. peerOf τ ≡ some p → A) (λ e. absurd (none-some e)) (λ m e. absurd (none-some e)) (λ m d q e. absurd (none-some e)) r g σ k
 
 module _ {n c : ℕ} {w b t : List ℕ} {u v : ℕ} (a : Admitted n c (lent w b t) u v) where
-  pub some-wake : 0 < u
-  some-wake = let z = a .wake-list in omega arith
-
   pub two-wakes : 1 < u
   two-wakes = let z = a .wake-list in let y = a .some-slot in omega arith
 
@@ -318,14 +292,11 @@ module _ {n c : ℕ} {w b t : List ℕ} {u v : ℕ} (a : Admitted n c (lent w b 
     -- ── shut ──
 
     module _ (i : ℕ) (ei : i ≡ slotOf h) where
-      pub own-in : 8 + 16 * i + 16 ≤ length w
-      own-in = slot-in a i (let z = lv .within in omega arith)
-
       module _ (slot : Slot) (es : slot ≡ loadedAt w i) where
         loaded : slot ≡ loadedAt w (slotOf h)
         loaded = es ∙ ap (loadedAt w) ei
 
-        pub shuts-apart : (rd wr : Bool) (l : Lists) (r : Answer) → OneOf (0 ∷ 1 ∷ 2 ∷ 3 ∷ []) (tagOf S.the-type (slot .state)) → r ≡ refusedWith 9
+        pub shuts-apart : (rd wr : Bool) (l : Lists) (r : Answer) → Unconnected (slot .state) → r ≡ refusedWith 9
             → Shuts n c (lent w b t) (lent w b t) h rd wr l l r
         unfolding doShutdown
         shuts-apart rd wr l r k er =
@@ -383,7 +354,7 @@ module _ {n c : ℕ} {w b t : List ℕ} {u v : ℕ} (a : Admitted n c (lent w b 
 
       points-there : peerOf (model.stateOf (view n c (lent w b t)) h) ≡ some (k .peer .0)
       unfolding peerOf
-      points-there = ap peerOf (state-is n c w b t (known a) h i k mine true true)
+      points-there = ap peerOf (mine .state-is)
 
       slots-differ : j ≢ i
       slots-differ z =
@@ -391,7 +362,7 @@ module _ {n c : ℕ} {w b t : List ℕ} {u v : ℕ} (a : Admitted n c (lent w b 
           (λ y. known a .good .sound .wf .apart h (lv .opened) (points-there ∙ ap some y)) (sym ej ∙ z ∙ ei)
 
       module _ (slot : Slot) (es : slot ≡ loadedAt w j) where
-        pub always-connected : {A : Type 0} → OneOf (0 ∷ 1 ∷ 2 ∷ 3 ∷ []) (tagOf S.the-type (slot .state)) → A
+        pub always-connected : {A : Type 0} → Unconnected (slot .state) → A
         always-connected d =
             no-peer h (rowAt n c (lent w b t) (slotOf (k .peer .0))) (cellAt w (slotOf (k .peer .0)) .generation) (slot .state) d
             (ap peerOf
@@ -477,6 +448,3 @@ module _ (n c : ℕ) (s : Store) (h : ℕ) (how : ℤ) (f : Bool) (ef : f ≡ li
           let p = one-of (equals how 0) (equals how 1) (equals how 2) m (λ e. (only how 0 1 (λ z. omega arith) e, only how 0 2 (λ z. omega arith) e)) (only how 1 2 (λ z. omega arith)) (asked (How.Is m) em) in
           y .shuts (Call.Shutdown h how)
           (live-run n c s h _ lives ∙ rw (p .0, p .1, p .2, sym er, sym ew) refl)
-
-pub shut-asked : {n c : ℕ} {w b t : List ℕ} {u v : ℕ} → Admitted n c (lent w b t) u v → (h : ℕ) (f : Bool) → f ≡ liveIn n w h → not f ≡ false → Admitted n c (lent w b t) u v × (liveIn n w h ≡ true)
-shut-asked a h f ef z = (a, sym ef ∙ not-false f z)

@@ -21,7 +21,7 @@ use Rattle.promise.specs.Answers.{refusedWith}
 use Rattle.promise.specs.Promise.{Lists, Done, Filled, outcome, Promise, PromiseFills}
 use Rattle.promise.specs.declared.Answer.{Answer}
 use Rattle.promise.proofs.Known.{refused-done}
-use Rattle.connecting.proofs.Socketing.{number-some}
+use Rattle.words.proofs.Names.{number-some}
 use Rattle.unix_socket.specs.Joint.{thenCall, sendAsks, sendLists, sendmsgOf, recvmsgOf}
 
 -- ── sendmsg ──

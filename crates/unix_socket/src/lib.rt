@@ -76,7 +76,7 @@ pub fn socket(
 {
     match table::admission(words, bytes, tokens, wakes, releases, n, c) {
         Verdict::Refused(no) => promise::refused(no),
-        Verdict::Accepted => connecting::socket_admitted(
+        Verdict::Accepted => opening::socket_admitted(
             words,
             bytes,
             tokens,
@@ -106,7 +106,7 @@ pub fn bind(
 {
     match table::admission(words, bytes, tokens, wakes, releases, n, c) {
         Verdict::Refused(no) => promise::refused(no),
-        Verdict::Accepted => connecting::bind_admitted(
+        Verdict::Accepted => opening::bind_admitted(
             words,
             bytes,
             tokens,
@@ -135,7 +135,7 @@ pub fn listen(
 {
     match table::admission(words, bytes, tokens, wakes, releases, n, c) {
         Verdict::Refused(no) => promise::refused(no),
-        Verdict::Accepted => connecting::listen_admitted(
+        Verdict::Accepted => accepting::listen_admitted(
             words,
             bytes,
             tokens,
@@ -163,7 +163,7 @@ pub fn accept(
 {
     match table::admission(words, bytes, tokens, wakes, releases, n, c) {
         Verdict::Refused(no) => promise::refused(no),
-        Verdict::Accepted => connecting::accept_admitted(
+        Verdict::Accepted => accepting::accept_admitted(
             words,
             bytes,
             tokens,
@@ -221,7 +221,7 @@ pub fn read(
 {
     match table::admission(words, bytes, tokens, wakes, releases, n, c) {
         Verdict::Refused(no) => promise::refused(no),
-        Verdict::Accepted => moving::read_admitted(
+        Verdict::Accepted => draining::read_admitted(
             words,
             bytes,
             tokens,
@@ -252,7 +252,7 @@ pub fn recvmsg(
 {
     match table::admission(words, bytes, tokens, wakes, releases, n, c) {
         Verdict::Refused(no) => promise::refused(no),
-        Verdict::Accepted => moving::recvmsg_admitted(
+        Verdict::Accepted => draining::recvmsg_admitted(
             words,
             bytes,
             tokens,
@@ -282,7 +282,7 @@ pub fn write(
 {
     match table::admission(words, bytes, tokens, wakes, releases, n, c) {
         Verdict::Refused(no) => promise::refused(no),
-        Verdict::Accepted => moving::write_admitted(
+        Verdict::Accepted => sending::write_admitted(
             words,
             bytes,
             tokens,
@@ -312,7 +312,7 @@ pub fn sendmsg(
 {
     match table::admission(words, bytes, tokens, wakes, releases, n, c) {
         Verdict::Refused(no) => promise::refused(no),
-        Verdict::Accepted => moving::sendmsg_admitted(
+        Verdict::Accepted => sending::sendmsg_admitted(
             words,
             bytes,
             tokens,

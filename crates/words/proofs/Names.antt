@@ -1,5 +1,6 @@
--- No two names of 01 have the same number, and the numbers are 1 to 19.
+-- No two names of 01 have the same number, and none has the number 0.
 use mathlib.Core.Path.{_≡_, refl, sym, _∙_, ap}
+use mathlib.Core.Logic.{_≢_}
 use mathlib.Core.Bool.{cond}
 use Prim.Native.Nat.{ℕ, _≤_}
 use native.Mathlib.Omega.{arith}
@@ -37,3 +38,7 @@ named DAMAGED = refl
 
 pub one-name : (a b : Errno) → numberOf a ≡ numberOf b → a ≡ b
 one-name a b e = sym (named a) ∙ ap name e ∙ named b
+
+pub number-some : (e : Errno) → numberOf e ≢ 0
+unfolding name
+number-some e z = let d : e ≡ DAMAGED = sym (named e) ∙ ap name z in let y = sym (ap numberOf d) ∙ z in omega arith

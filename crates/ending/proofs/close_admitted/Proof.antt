@@ -5,8 +5,6 @@ use Rattle.ending.proofs.Ended.{stale, closed-never, unbound-closed, bo
 use borrow.Author.Needs.{needs}
 use Rattle.ending.proofs.close_admitted.Statement.{statement}
 use Rattle.ending.proofs.close_admitted.Tie as tie
-use Rattle.ending.proofs.close_admitted.Reads as reads
-use Rattle.ending.proofs.close_admitted.Lts as lts
 use Rattle.ending.proofs.closed.Reads as closed-reads
 use Rattle.ending.proofs.end.Reads as end-reads
 use Rattle.ending.proofs.end_listener.Reads as end-listener-reads

@@ -1,8 +1,6 @@
 use borrow.Author.Needs.{needs}
 use Rattle.ending.proofs.end.Statement.{statement}
 use Rattle.ending.proofs.end.Tie as tie
-use Rattle.ending.proofs.end.Reads as reads
-use Rattle.ending.proofs.end.Lts as lts
 use Rattle.ending.proofs.leave.Reads as leave-reads
 use Rattle.storage.proofs.handles.is_open.Reads as is-open-reads
 use Rattle.storage.proofs.inboxes.discard.Reads as discard-reads

@@ -1,11 +1,10 @@
 use Prim.Native.Nat.{_-_, _≤_}
 use native.Mathlib.Omega.{arith}
 use borrow.Author.Needs.{needs}
-use Rattle.ending.proofs.Ended.{Going, begun, left-first, going-first, going-on, going-words, going-done, serves-next, words-next, room-next, live-slot, heads, entry-room}
+use Rattle.promise.proofs.Asked.{own-in}
+use Rattle.ending.proofs.Ended.{Going, begun, left-first, going-first, going-on, going-words, going-done, serves-next, words-next, room-next, heads, entry-room}
 use Rattle.ending.proofs.end_listener.Statement.{statement}
 use Rattle.ending.proofs.end_listener.Tie as tie
-use Rattle.ending.proofs.end_listener.Reads as reads
-use Rattle.ending.proofs.end_listener.Lts as lts
 use Rattle.ending.proofs.closed.Reads as closed-reads
 use Rattle.ending.proofs.end_server.Reads as end-server-reads
 use Rattle.ending.proofs.leave.Reads as leave-reads
@@ -26,7 +25,7 @@ slot-of-requires c κs = search needs
 
 -- src/lib.rt:234:5
 leave-requires : tie.Need-leave-requires Inv-loop μ-loop
-leave-requires c κs = let p = c .before .before .before .before .before .before .before .pre in live-slot (p .0) (c .before .before .before .before .before .before .before .args .h .0) (p .1 .0) (c .before .slot-of .result) (c .before .slot-of .ensures)
+leave-requires c κs = let p = c .before .before .before .before .before .before .before .pre in own-in (p .0) (c .before .before .before .before .before .before .before .args .h .0) (p .1 .0) (c .before .slot-of .result) (c .before .slot-of .ensures)
 
 -- src/lib.rt:235:5
 slice-write-wakes : tie.Need-slice-write-wakes Inv-loop μ-loop

@@ -1,8 +1,6 @@
 use borrow.Author.Needs.{needs}
 use Rattle.ending.proofs.end_server.Statement.{statement}
 use Rattle.ending.proofs.end_server.Tie as tie
-use Rattle.ending.proofs.end_server.Reads as reads
-use Rattle.ending.proofs.end_server.Lts as lts
 use Rattle.ending.proofs.end.Reads as end-reads
 use Rattle.storage.proofs.handles.slot_of.Reads as slot-of-reads
 use Rattle.storage.proofs.load.Reads as load-reads

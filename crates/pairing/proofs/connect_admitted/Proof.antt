@@ -1,8 +1,6 @@
 use borrow.Author.Needs.{needs}
 use Rattle.pairing.proofs.connect_admitted.Statement.{statement}
 use Rattle.pairing.proofs.connect_admitted.Tie as tie
-use Rattle.pairing.proofs.connect_admitted.Reads as reads
-use Rattle.pairing.proofs.connect_admitted.Lts as lts
 use Rattle.pairing.proofs.reach.Reads as reach-reads
 use Rattle.promise.proofs.refused.Reads as refused-reads
 use Rattle.storage.proofs.handles.is_live.Reads as is-live-reads

@@ -1,8 +1,6 @@
 use borrow.Author.Needs.{needs}
 use Rattle.pairing.proofs.join.Statement.{statement}
 use Rattle.pairing.proofs.join.Tie as tie
-use Rattle.pairing.proofs.join.Reads as reads
-use Rattle.pairing.proofs.join.Lts as lts
 use Rattle.pairing.proofs.pair.Reads as pair-reads
 use Rattle.pairing.proofs.queue_up.Reads as queue-up-reads
 use Rattle.ring.proofs.place.Reads as place-reads

@@ -1,8 +1,6 @@
 use borrow.Author.Needs.{needs}
 use Rattle.pairing.proofs.new_end.Statement.{statement}
 use Rattle.pairing.proofs.new_end.Tie as tie
-use Rattle.pairing.proofs.new_end.Reads as reads
-use Rattle.pairing.proofs.new_end.Lts as lts
 use Rattle.inbox.proofs.Inbox.new.Reads as new-reads
 use Rattle.pairing.proofs.Storing.{end-is}
 

@@ -1,8 +1,6 @@
 use borrow.Author.Needs.{needs}
 use Rattle.pairing.proofs.pair.Statement.{statement}
 use Rattle.pairing.proofs.pair.Tie as tie
-use Rattle.pairing.proofs.pair.Reads as reads
-use Rattle.pairing.proofs.pair.Lts as lts
 use Rattle.pairing.proofs.new_end.Reads as new-end-reads
 use Rattle.storage.proofs.handles.handle.Reads as handle-reads
 use Rattle.storage.proofs.handles.slot_of.Reads as slot-of-reads

@@ -1,8 +1,6 @@
 use borrow.Author.Needs.{needs}
 use Rattle.pairing.proofs.queue_up.Statement.{statement}
 use Rattle.pairing.proofs.queue_up.Tie as tie
-use Rattle.pairing.proofs.queue_up.Reads as reads
-use Rattle.pairing.proofs.queue_up.Lts as lts
 use Rattle.storage.proofs.queues.put_entry.Reads as put-entry-reads
 use Rattle.storage.proofs.store.Reads as store-reads
 use Rattle.pairing.proofs.Storing.{queued-up}

@@ -1,8 +1,6 @@
 use borrow.Author.Needs.{needs}
 use Rattle.pairing.proofs.reach.Statement.{statement}
 use Rattle.pairing.proofs.reach.Tie as tie
-use Rattle.pairing.proofs.reach.Reads as reads
-use Rattle.pairing.proofs.reach.Lts as lts
 use Rattle.pairing.proofs.join.Reads as join-reads
 use Rattle.pairing.proofs.wake.Reads as wake-reads
 use Rattle.promise.proofs.accepted.Reads as accepted-reads
@@ -11,7 +9,8 @@ use Rattle.storage.proofs.handles.handle.Reads as handle-reads
 use Rattle.storage.proofs.handles.lowest_free.Reads as lowest-free-reads
 use Rattle.storage.proofs.load.Reads as load-reads
 use Rattle.storage.proofs.names.find.Reads as find-reads
-use Rattle.pairing.proofs.Reaching.{reach-none, found-handle, not-listening, reach-other, reach-full, reach-no-slot, join-asks, reach-made}
+use Rattle.promise.proofs.Called.{not-listening}
+use Rattle.pairing.proofs.Reaching.{reach-none, found-handle, reach-other, reach-full, reach-no-slot, join-asks, reach-made}
 use Rattle.storage.specs.Rows.{lent}
 use Rattle.promise.specs.Promise.{lists}
 use Rattle.promise.specs.Answers.{refusedWith}

@@ -1,8 +1,6 @@
 use borrow.Author.Needs.{needs}
 use Rattle.promise.proofs.refused.Statement.{statement}
 use Rattle.promise.proofs.refused.Tie as tie
-use Rattle.promise.proofs.refused.Reads as reads
-use Rattle.promise.proofs.refused.Lts as lts
 use Rattle.words.proofs.Errno.number.Reads as number-reads
 use Rattle.promise.proofs.Answering.{refused-is}
 

@@ -1,8 +1,6 @@
 use borrow.Author.Needs.{needs}
 use Rattle.readying.proofs.has_room.Statement.{statement}
 use Rattle.readying.proofs.has_room.Tie as tie
-use Rattle.readying.proofs.has_room.Reads as reads
-use Rattle.readying.proofs.has_room.Lts as lts
 use Rattle.inbox.proofs.Inbox.queued.Reads as queued-reads
 use Rattle.readying.proofs.Readying.{room-is}
 

@@ -1,8 +1,6 @@
 use borrow.Author.Needs.{needs}
 use Rattle.readying.proofs.readable.Statement.{statement}
 use Rattle.readying.proofs.readable.Tie as tie
-use Rattle.readying.proofs.readable.Reads as reads
-use Rattle.readying.proofs.readable.Lts as lts
 use Rattle.inbox.proofs.Inbox.queued.Reads as queued-reads
 use Rattle.readying.proofs.Readying.{some-bytes, shut-inbox, no-bytes}
 

@@ -1,8 +1,6 @@
 use borrow.Author.Needs.{needs}
 use Rattle.readying.proofs.readiness_admitted.Statement.{statement}
 use Rattle.readying.proofs.readiness_admitted.Tie as tie
-use Rattle.readying.proofs.readiness_admitted.Reads as reads
-use Rattle.readying.proofs.readiness_admitted.Lts as lts
 use Rattle.readying.proofs.ready.Reads as ready-reads
 use Rattle.promise.proofs.accepted.Reads as accepted-reads
 use Rattle.promise.proofs.refused.Reads as refused-reads

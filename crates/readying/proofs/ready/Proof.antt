@@ -1,8 +1,6 @@
 use borrow.Author.Needs.{needs}
 use Rattle.readying.proofs.ready.Statement.{statement}
 use Rattle.readying.proofs.ready.Tie as tie
-use Rattle.readying.proofs.ready.Reads as reads
-use Rattle.readying.proofs.ready.Lts as lts
 use Rattle.readying.proofs.readable.Reads as readable-reads
 use Rattle.readying.proofs.writable.Reads as writable-reads
 use Rattle.storage.proofs.handles.is_open.Reads as is-open-reads

@@ -1,8 +1,6 @@
 use borrow.Author.Needs.{needs}
 use Rattle.readying.proofs.writable.Statement.{statement}
 use Rattle.readying.proofs.writable.Tie as tie
-use Rattle.readying.proofs.writable.Reads as reads
-use Rattle.readying.proofs.writable.Lts as lts
 use Rattle.readying.proofs.has_room.Reads as has-room-reads
 use Rattle.storage.proofs.load.Reads as load-reads
 use Rattle.readying.proofs.Readying.{shut-outbox, some-room, no-room}

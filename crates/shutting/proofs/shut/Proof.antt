@@ -2,7 +2,8 @@ use borrow.Author.Needs.{needs}
 use Rattle.shutting.proofs.shut.Statement.{statement}
 use Rattle.shutting.proofs.shut.Tie as tie
 use Rattle.promise.specs.Promise.{lists}
-use Rattle.shutting.proofs.Shutting.{own-in, some-wake, shuts-apart, pair-asked, end-asked, shuts-alone}
+use Rattle.promise.proofs.Asked.{some-wake, own-in}
+use Rattle.shutting.proofs.Shutting.{shuts-apart, pair-asked, end-asked, shuts-alone}
 
 slot-of-requires : tie.Need-slot-of-requires
 slot-of-requires c κs = search needs

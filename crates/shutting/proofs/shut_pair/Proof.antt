@@ -1,7 +1,8 @@
 use borrow.Author.Needs.{needs}
 use Rattle.shutting.proofs.shut_pair.Statement.{statement}
 use Rattle.shutting.proofs.shut_pair.Tie as tie
-use Rattle.shutting.proofs.Shutting.{peer-in, own-asked, peer-still, some-wake, two-wakes, always-connected, shuts-both}
+use Rattle.promise.proofs.Asked.{some-wake}
+use Rattle.shutting.proofs.Shutting.{peer-in, own-asked, peer-still, two-wakes, always-connected, shuts-both}
 
 slot-of-requires : tie.Need-slot-of-requires
 slot-of-requires c κs = search needs

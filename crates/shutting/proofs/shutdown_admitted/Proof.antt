@@ -1,11 +1,10 @@
 use borrow.Author.Needs.{needs}
 use Rattle.shutting.proofs.shutdown_admitted.Statement.{statement}
 use Rattle.shutting.proofs.shutdown_admitted.Tie as tie
-use Rattle.shutting.proofs.shutdown_admitted.Reads as reads
 use mir.Facts.{toZ-ofZ}
 use Rattle.storage.specs.Rows.{lent}
-use Rattle.promise.specs.Promise.{lists}
-use Rattle.shutting.proofs.Shutting.{shut-asked, shutdown-stale, shutdown-refused, shutdown-shuts}
+use Rattle.promise.proofs.Asked.{live-asked}
+use Rattle.shutting.proofs.Shutting.{shutdown-stale, shutdown-refused, shutdown-shuts}
 
 is-live-requires : tie.Need-is-live-requires
 is-live-requires c κs = search needs
@@ -42,7 +41,7 @@ shut-requires c κs =
     let a = c .before .before .before .before .before .before .before .before .before .before .before .before .before .before .before .before .before .args in
     let pre = c .before .before .before .before .before .before .before .before .before .before .before .before .before .before .before .before .before .pre in
     let f = c .before .before .before .before .before .before .before .before .before .before .is-live in
-    shut-asked pre (a .h .0) (f .result) (f .ensures) (c .before .before .before .before .before .before .before .before .before .if1 .left)
+    live-asked pre (a .h .0) (f .result) (f .ensures) (c .before .before .before .before .before .before .before .before .before .if1 .left)
 
 same-length-2 : tie.Need-same-length-2
 same-length-2 c = search needs

@@ -1,5 +1,0 @@
-pub mod Called
-pub mod Socketing
-pub mod Binding
-pub mod Listening
-pub mod Accepting
