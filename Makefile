@@ -51,7 +51,7 @@ c-test: $(ARCHIVE)
 oracle: $(ARCHIVE)
 	@scripts/oracle-all
 
-bench: $(ARCHIVE)
+bench: archive
 	@command -v cargo >/dev/null || { echo "bench: passed over, there is no cargo"; exit 0; }; \
 	scripts/native-archive bench_exports target/native/libbench_exports.a && \
 	EIDROVANG_LIB_DIR=$$PWD/target/native cargo run --quiet --release --offline --manifest-path bench/Cargo.toml --target-dir target/bench

@@ -1,15 +1,22 @@
 // Links the archive of crate bench_exports, and sees whether the original is there: EIDROVANG_RUST
 // names its folder, without it ../shared/docs/src beside the repository.
-use std::env;
 use std::path::PathBuf;
+use std::{env, fs};
 
 fn main() {
     let here = PathBuf::from(env::var_os("CARGO_MANIFEST_DIR").unwrap());
     let repository = here.parent().unwrap();
-    let archives = repository.join("target/native");
-    println!("cargo::rustc-link-search=native={}", archives.display());
+    let archive = repository.join("target/native/libbench_exports.a");
+    println!("cargo::rustc-link-search=native={}", archive.parent().unwrap().display());
     println!("cargo::rustc-link-lib=static=bench_exports");
-    println!("cargo::rerun-if-changed={}", archives.join("libbench_exports.a").display());
+    println!("cargo::rerun-if-changed={}", archive.display());
+
+    // Whether the archive has the check by itself.
+    println!("cargo::rustc-check-cfg=cfg(check_alone)");
+    let symbol = b"bench_check";
+    if fs::read(&archive).is_ok_and(|bytes| bytes.windows(symbol.len()).any(|part| part == symbol)) {
+        println!("cargo::rustc-cfg=check_alone");
+    }
 
     println!("cargo::rustc-check-cfg=cfg(original)");
     println!("cargo::rerun-if-env-changed=EIDROVANG_RUST");

@@ -1,146 +1,85 @@
-//! The proved inbox and the proved calls beside memcpy and beside the Rust original, in one run. Each pair of samples is
-//! taken back to back, its order turned round every time, and what counts is the median over the
-//! pairs of the ratio of the two.
+//! The library beside the Rust original, beside Linux's own sockets and beside memcpy, in one run; it prints
+//! tables and writes docs/BENCH.md and docs/bench.svg.
 
+mod archives;
 mod inbox;
-#[cfg(original)]
+mod linux;
+mod machine;
+mod measure;
+#[cfg_attr(not(original), path = "absent.rs")]
 mod original;
-mod pairs;
+mod picture;
+mod report;
+mod storage;
 mod table;
+mod timing;
 
-use std::thread::sleep;
-use std::time::Duration;
+use std::fs;
+use std::path::Path;
+use std::process::ExitCode;
+use std::time::Instant;
 
-use inbox::Inbox;
-use pairs::Pairs;
-use table::Sockets;
+use machine::Machine;
+use report::Run;
+use timing::Pace;
 
-const CAPACITY: usize = 65_536;
+/// Runs one part, and says so.
+fn part<T>(start: Instant, title: &str, run: impl FnOnce() -> T, table: impl FnOnce(&T) -> String) -> T {
+    println!("{:6.1} s  {title} ..", start.elapsed().as_secs_f64());
+    let done = run();
+    println!("\n{}", table(&done));
+    done
+}
 
-/// The pairs are taken in passes with pauses between, so that a neighbour's burst does not decide.
-const PASSES: usize = 20;
-const PAIRS: usize = 51;
-
-fn main() {
-    println!("{} pairs each; times are medians, a ratio is the median of its pairs", PASSES * PAIRS);
-    let mut straight = Pairs::default();
-    let mut wrapped = Pairs::default();
-    #[cfg(original)]
-    let mut message = Pairs::default();
-    for _ in 0..PASSES {
-        bytes(&mut straight, 0);
-        bytes(&mut wrapped, 32_768);
-        #[cfg(original)]
-        messages(&mut message);
-        sleep(Duration::from_millis(100));
+fn measured(quick: bool) -> Run {
+    let start = Instant::now();
+    let machine = Machine::here();
+    let pace = if quick { Pace::QUICK } else { Pace::FULL };
+    println!("{}, {} cores, {}, load {}", machine.processor, machine.cores, machine.kernel, machine.load);
+    if !original::THERE {
+        println!("the Rust original is not there (EIDROVANG_RUST names its folder): nothing is compared with it");
     }
-    straight.print("64 KiB, ring straight", "memcpy twice", 1.15);
-    wrapped.print("64 KiB, ring wrapped at its middle", "memcpy twice", 1.15);
-    #[cfg(original)]
-    message.print("16 bytes with one item", "the Rust original", 0.5);
-    #[cfg(not(original))]
-    println!("16 bytes with one item, and the calls: passed over, the Rust original is not there (EIDROVANG_RUST names its folder)");
-    #[cfg(original)]
-    calls();
-    copies();
-    table::check();
+    linux::raise_limit();
+    let calls = part(start, "the calls, N = 8", || measure::calls(pace), |t| report::calls_table(t));
+    let sizes = part(start, "sizes and items", || measure::sizes(pace), |t| report::sizes_table(t));
+    let copies = part(start, "64 KiB beside memcpy", || measure::copies(pace), |_| String::new());
+    let growth = part(start, "slots", || measure::growth(pace), |t| report::growth_table(t));
+    let checks = part(start, "the check", || measure::checks(pace), |t| report::checks_table(t));
+    let names = part(start, "names, and the worst call", || measure::names(pace), |t| report::names_table(t));
+    let inbox = part(start, "one inbox by itself", || measure::inbox(pace), |t| report::inbox_table(t));
+    println!("{:6.1} s  done\n", start.elapsed().as_secs_f64());
+    Run { machine, pace, quick, calls, sizes, copies, growth, checks, names, inbox }
 }
 
-/// The calls on a table of 8 slots beside the original's, which has no table, no handles and no check.
-#[cfg(original)]
-fn calls() {
-    let mut ours = Sockets::new(8, CAPACITY);
-    let theirs = original::Pair::new();
-    let small = *b"sixteen bytes ..";
-    let large: Vec<u8> = (0..CAPACITY).map(|i| (i * 31 % 251) as u8).collect();
-    let mut a = vec![0; CAPACITY];
-    let mut b = vec![0; CAPACITY];
-    let against = |title: &str, target: f64, rounds: u32, f: &mut dyn FnMut(), g: &mut dyn FnMut()| {
-        let mut pairs = Pairs::default();
-        pairs.take(301, rounds, f, g);
-        pairs.print(title, "the Rust original", target);
-    };
-    against("socket, close", 0.7, 200, &mut || ours.socket_and_close(), &mut || theirs.socket_and_close());
-    against("socket, connect, accept, two closes", 0.7, 200, &mut || ours.connect_and_close(), &mut || theirs.connect_and_close());
-    against("sendmsg, recvmsg of 16 bytes with an item", 0.7, 200, &mut || ours.message(&small, &mut a[..16]), &mut || {
-        theirs.send_and_receive(&small, 7, &mut b[..16]);
-    });
-    against("write, read of 16 bytes", 0.7, 200, &mut || ours.bytes(&small, &mut a[..16]), &mut || theirs.bytes(&small, &mut b[..16]));
-    against("readiness", 0.7, 200, &mut || ours.readiness(), &mut || theirs.readiness());
-    against("write, read of 64 KiB", 0.12, 4, &mut || ours.bytes(&large, &mut a), &mut || theirs.bytes(&large, &mut b));
-    against("socket, bind, listen, close", 1.0, 200, &mut || ours.bind_and_close(), &mut || theirs.bind_and_close());
-    against("socket, connect, accept, shutdown, two closes", 1.0, 200, &mut || ours.shutdown_and_close(), &mut || theirs.shutdown_and_close());
-}
-
-/// 64 KiB through write and read, against memcpy from the source to a buffer and from there to the destination.
-fn copies() {
-    let mut ours = Sockets::new(8, CAPACITY);
-    let source: Vec<u8> = (0..CAPACITY).map(|i| (i * 31 % 251) as u8).collect();
-    let between = std::cell::RefCell::new(vec![0; CAPACITY]);
-    let destination = std::cell::RefCell::new(vec![0; CAPACITY]);
-    let mut pairs = Pairs::default();
-    pairs.take(
-        301,
-        8,
-        || ours.bytes(&source, &mut destination.borrow_mut()),
-        || {
-            pairs::memcpy(&source, &mut between.borrow_mut());
-            pairs::memcpy(&between.borrow(), &mut destination.borrow_mut());
-        },
-    );
-    pairs.print("64 KiB through write and read", "memcpy twice", 1.15);
-}
-
-/// 64 KiB pushed and taken, against memcpy from the source to the ring and from there to the
-/// destination, over the same three buffers. A sample is 8 rounds.
-fn bytes(pairs: &mut Pairs, head: u64) {
-    let source: Vec<u8> = (0..CAPACITY).map(|i| (i * 31 % 251) as u8).collect();
-    let mut destination = vec![0; CAPACITY];
-    let mut inbox = Inbox::new(CAPACITY, head);
-
-    inbox.push(&source, &[]);
-    inbox.take(&mut destination, &mut []);
-    assert!(source == destination, "the bytes come back");
-
-    // Both closures use the same buffers, one after the other.
-    let inbox = std::cell::RefCell::new(inbox);
-    let destination = std::cell::RefCell::new(destination);
-    pairs.take(
-        PAIRS,
-        8,
-        || {
-            let mut inbox = inbox.borrow_mut();
-            inbox.push(&source, &[]);
-            inbox.take(&mut destination.borrow_mut(), &mut []);
-        },
-        || {
-            let mut inbox = inbox.borrow_mut();
-            pairs::memcpy(&source, &mut inbox.ring);
-            pairs::memcpy(&inbox.ring, &mut destination.borrow_mut());
-        },
-    );
-}
-
-/// 16 bytes with one item, sent and received. A sample is 1,000 rounds.
-#[cfg(original)]
-fn messages(pairs: &mut Pairs) {
-    let source = *b"sixteen bytes ..";
-    let mut inbox = Inbox::new(CAPACITY, 0);
-    let pair = original::Pair::new();
-    let mut ours = [0; 16];
-    let mut theirs = [0; 16];
-    pairs.take(
-        PAIRS,
-        1_000,
-        || {
-            let mut items = [0];
-            inbox.push(&source, &[7]);
-            inbox.take(&mut ours, &mut items);
-            assert!(items == [7] && ours == source);
-        },
-        || {
-            let items = pair.send_and_receive(&source, 7, &mut theirs);
-            assert!(items == [7] && theirs == source);
-        },
-    );
+fn main() -> ExitCode {
+    let args: Vec<String> = std::env::args().skip(1).collect();
+    if let Some(other) = args.iter().find(|arg| !["--quick", "--dry"].contains(&arg.as_str())) {
+        eprintln!("usage: bench [--quick] [--dry]; not {other}");
+        return ExitCode::from(2);
+    }
+    if let Some(why) = machine::emulated() {
+        eprintln!("bench: emulated runs are never timed: {why}");
+        return ExitCode::FAILURE;
+    }
+    let asked = |flag: &str| args.iter().any(|arg| arg == flag);
+    let repository = Path::new(env!("CARGO_MANIFEST_DIR")).join("..");
+    if let Some(why) = archives::stale(&repository) {
+        eprintln!("bench: {why}: make archive first");
+        if !asked("--quick") {
+            return ExitCode::FAILURE;
+        }
+    }
+    let run = measured(asked("--quick"));
+    println!("{}", run.summary());
+    if asked("--dry") {
+        return ExitCode::SUCCESS;
+    }
+    for (name, text) in [("BENCH.md", run.page()), ("bench.svg", run.picture())] {
+        if let Err(wrong) = fs::write(repository.join("docs").join(name), text) {
+            eprintln!("bench: docs/{name}: {wrong}");
+            return ExitCode::FAILURE;
+        }
+        println!("wrote docs/{name}");
+    }
+    ExitCode::SUCCESS
 }

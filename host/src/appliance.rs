@@ -363,7 +363,7 @@ impl Appliance<'_> {
             self.collect();
             let beside = self.host.asleep_beside_work();
             if !beside.is_empty() {
-                self.wrong(beside.join("; "));
+                self.wrong(format!("{}; the table:\n{}", beside.join("; "), self.host.print()));
                 return true;
             }
             let moved = self.moved.load(Ordering::Relaxed);

@@ -4,7 +4,8 @@
 //! - A caller that is told [`Errno::Again`] is registered as a sleeper before the lock is given back.
 //! - Every call passes its wakes on. A wake for a socket that this host has not been given yet is a
 //!   pending server's: nobody can sleep on it.
-//! - The table does not wake those who sleep on a handle that is closed under them: the host does.
+//! - The table does not wake those who sleep on a handle that is closed under them: the host does. Likewise those who
+//!   sleep in connect on a socket that another thread binds or connects.
 
 use std::collections::HashMap;
 use std::sync::{Arc, Condvar, Mutex, MutexGuard};
@@ -27,6 +28,8 @@ pub enum Waits {
 struct Sleeper {
     handle: Handle,
     waits: Waits,
+    /// Whom it connects to.
+    name: Vec<u8>,
     woken: bool,
 }
 
@@ -94,7 +97,7 @@ impl Host {
         handle: Handle,
         f: impl FnMut(&mut Table<'static>) -> Result<T, Errno>,
     ) -> Result<T, Errno> {
-        self.wait_locked(waits, handle, f).0
+        self.wait_locked(waits, handle, &[], f).0
     }
 
     /// The same, and the lock is still held.
@@ -102,6 +105,7 @@ impl Host {
         &self,
         waits: Waits,
         handle: Handle,
+        name: &[u8],
         mut f: impl FnMut(&mut Table<'static>) -> Result<T, Errno>,
     ) -> (Result<T, Errno>, MutexGuard<'_, State>) {
         let mut state = self.lock();
@@ -112,7 +116,7 @@ impl Host {
             }
             let id = state.next_sleeper;
             state.next_sleeper += 1;
-            state.sleepers.insert(id, Sleeper { handle, waits, woken: false });
+            state.sleepers.insert(id, Sleeper { handle, waits, name: name.into(), woken: false });
             state = match (waits, state.sockets.get(&handle).cloned()) {
                 (Waits::Connect, _) => self.registry.wait(state),
                 (_, Some(socket)) => socket.wait(state),
@@ -143,7 +147,10 @@ impl Host {
     /// # Errors
     /// As there.
     pub fn bind(&self, socket: Handle, name: &[u8]) -> Result<(), Errno> {
-        self.call(&mut self.lock(), |t| t.bind(socket, name))
+        let mut state = self.lock();
+        self.call(&mut state, |t| t.bind(socket, name))?;
+        self.wake_connecting(&mut state, socket);
+        Ok(())
     }
 
     /// [`Table::listen`].
@@ -159,7 +166,7 @@ impl Host {
     /// # Errors
     /// As there, but for [`Errno::Again`].
     pub fn accept(&self, socket: Handle) -> Result<Handle, Errno> {
-        let (server, mut state) = self.wait_locked(Waits::Accept, socket, |t| t.accept(socket));
+        let (server, mut state) = self.wait_locked(Waits::Accept, socket, &[], |t| t.accept(socket));
         if let Ok(server) = server {
             state.sockets.insert(server, Arc::new(Condvar::new()));
         }
@@ -171,7 +178,11 @@ impl Host {
     /// # Errors
     /// As there, but for [`Errno::Again`].
     pub fn connect(&self, socket: Handle, name: &[u8]) -> Result<(), Errno> {
-        self.wait(Waits::Connect, socket, |t| t.connect(socket, name))
+        let (answer, mut state) = self.wait_locked(Waits::Connect, socket, name, |t| t.connect(socket, name));
+        if answer.is_ok() {
+            self.wake_connecting(&mut state, socket);
+        }
+        answer
     }
 
     /// [`Table::read`], waiting for bytes.
@@ -231,16 +242,22 @@ impl Host {
         self.call(&mut state, |t| t.close(socket))?;
         if let Some(sleepers) = state.sockets.remove(&socket) {
             sleepers.notify_all();
+            let on_it = |s: &&mut Sleeper| s.handle == socket && s.waits != Waits::Connect;
+            state.sleepers.values_mut().filter(on_it).for_each(|s| s.woken = true);
         }
+        self.wake_connecting(&mut state, socket);
+        Ok(())
+    }
+
+    /// Wakes the other threads that sleep in connect on this socket: they sleep on the registry, and what changed is
+    /// the socket.
+    fn wake_connecting(&self, state: &mut State, socket: Handle) {
         for sleeper in state.sleepers.values_mut() {
-            if sleeper.handle == socket {
+            if sleeper.handle == socket && sleeper.waits == Waits::Connect {
                 sleeper.woken = true;
-                if sleeper.waits == Waits::Connect {
-                    self.registry.notify_all();
-                }
+                self.registry.notify_all();
             }
         }
-        Ok(())
     }
 
     /// The handles that were given out and are not closed.
@@ -260,20 +277,24 @@ impl Host {
     pub fn asleep_beside_work(&self) -> Vec<String> {
         let mut state = self.lock();
         let State { table, sleepers, .. } = &mut *state;
+        // Connects are tried on a copy, and a refused one leaves it as it is.
+        let mut copy = None;
         let mut beside = Vec::new();
         for sleeper in sleepers.values().filter(|s| !s.woken) {
-            let Ok(ready) = table.readiness(sleeper.handle) else {
-                beside.push(format!("{} sleeps in {:?}, and is closed", sleeper.handle, sleeper.waits));
+            let Sleeper { handle, waits, name, .. } = sleeper;
+            let Ok(ready) = table.readiness(*handle) else {
+                beside.push(format!("{handle} sleeps in {waits:?}, and is closed"));
                 continue;
             };
-            let work = match sleeper.waits {
+            let work = match waits {
                 Waits::Accept | Waits::Read => ready.readable,
                 Waits::Write => ready.writable || ready.hung_up,
-                // What a connect would be answered cannot be asked without connecting.
-                Waits::Connect => false,
+                Waits::Connect => {
+                    copy.get_or_insert_with(|| table.duplicate()).connect(*handle, name) != Err(Errno::Again)
+                }
             };
             if work {
-                beside.push(format!("{} sleeps in {:?} beside {ready:?}", sleeper.handle, sleeper.waits));
+                beside.push(format!("{handle} sleeps in {waits:?} beside work, {ready:?}"));
             }
         }
         beside
@@ -290,5 +311,38 @@ impl Host {
             text += &format!("{handle}: {ready:?}, asleep {asleep:?}\n");
         }
         text
+    }
+}
+
+#[cfg(test)]
+mod tests {
+    use super::*;
+
+    /// Puts a sleeper beside what it waits for, as a host would that loses a wake.
+    fn beside(host: &Host, handle: Handle, waits: Waits) -> usize {
+        let sleeper = Sleeper { handle, waits, name: b"/a".into(), woken: false };
+        host.lock().sleepers.insert(0, sleeper);
+        let found = host.asleep_beside_work().len();
+        host.lock().sleepers.clear();
+        found
+    }
+
+    #[test]
+    fn the_watchdog_sees_a_lost_wake() {
+        let host = Host::new(6, 1).unwrap();
+        let [listener, client, other] = [(); 3].map(|()| host.socket().unwrap());
+        host.bind(listener, b"/a").unwrap();
+        host.listen(listener, 1).unwrap();
+        assert_eq!(beside(&host, listener, Waits::Accept), 0);
+        assert_eq!(beside(&host, other, Waits::Connect), 1);
+        host.connect(client, b"/a").unwrap();
+        assert_eq!(beside(&host, listener, Waits::Accept), 1);
+        assert_eq!(beside(&host, other, Waits::Connect), 0);
+        let server = host.accept(listener).unwrap();
+        assert_eq!((beside(&host, server, Waits::Read), beside(&host, client, Waits::Write)), (0, 1));
+        host.write(client, b"x").unwrap();
+        assert_eq!((beside(&host, server, Waits::Read), beside(&host, client, Waits::Write)), (1, 0));
+        host.close(server).unwrap();
+        assert_eq!((beside(&host, server, Waits::Read), beside(&host, client, Waits::Write)), (1, 1));
     }
 }

@@ -60,7 +60,6 @@ mod ffi {
     #[repr(C)]
     #[derive(Clone, Copy)]
     pub struct Least {
-        // A u64 below 20 in the header: its low half.
         pub refusal: u32,
         pub words: u64,
         pub bytes: u64,
@@ -335,6 +334,18 @@ pub fn sizes(n: usize, c: usize) -> Result<Sizes, Errno> {
     })
 }
 
+impl Sizes {
+    /// The same lengths where they have to be known when the host is compiled, for storage that is static.
+    ///
+    /// # Panics
+    /// Where [`sizes`] would refuse.
+    #[must_use]
+    pub const fn least(n: usize, c: usize) -> Self {
+        assert!(1 <= n && n <= 1_024 && 1 <= c && c <= 65_536);
+        Self { words: 8 + 272 * n + n * n, bytes: (c + 255) * n, tokens: 256 * n, wakes: n + 1, releases: 256 * n }
+    }
+}
+
 /// Storage for a table: all of its state stands in `words`, `bytes` and `tokens`.
 #[derive(Debug)]
 pub struct Lent<'a> {
@@ -355,6 +366,13 @@ enum Held<'a, T> {
     Lent(&'a mut [T]),
     #[cfg(feature = "alloc")]
     Owned(alloc::boxed::Box<[T]>),
+}
+
+#[cfg(feature = "alloc")]
+impl<T: Copy> Held<'_, T> {
+    fn copied(&self) -> Held<'static, T> {
+        Held::Owned((**self).into())
+    }
 }
 
 impl<T> Deref for Held<'_, T> {
@@ -418,6 +436,27 @@ macro_rules! call {
 impl<'a> Table<'a> {
     /// A fresh table of `n` slots and inboxes of `c` bytes in lent storage, whatever stood there.
     ///
+    /// ```
+    /// use eidrovang::{Item, Lent, Sizes, Table, Wake};
+    ///
+    /// const N: usize = 4;
+    /// const C: usize = 512;
+    /// const LEAST: Sizes = Sizes::least(N, C);
+    /// let (mut words, mut bytes, mut tokens) = ([0; LEAST.words], [0; LEAST.bytes], [0; LEAST.tokens]);
+    /// let (mut wakes, mut releases) = ([Wake::default(); LEAST.wakes], [Item::default(); LEAST.releases]);
+    /// let lent = Lent {
+    ///     words: &mut words,
+    ///     bytes: &mut bytes,
+    ///     tokens: &mut tokens,
+    ///     wakes: &mut wakes,
+    ///     releases: &mut releases,
+    /// };
+    /// let mut table = Table::make(lent, N, C)?;
+    /// let socket = table.socket(1, 1, 0)?;
+    /// # table.close(socket)?;
+    /// # Ok::<(), eidrovang::Errno>(())
+    /// ```
+    ///
     /// # Errors
     /// [`Errno::Invalid`] where `n` or `c` is out of range, [`Errno::Short`] where anything lent is below
     /// [`sizes`].
@@ -468,6 +507,23 @@ impl<'a> Table<'a> {
         };
         table.fresh()?;
         Ok(table)
+    }
+
+    /// The same table in storage of its own: to try a call whose effect is not wanted.
+    #[cfg(feature = "alloc")]
+    #[must_use]
+    pub fn duplicate(&self) -> Table<'static> {
+        Table {
+            words: self.words.copied(),
+            bytes: self.bytes.copied(),
+            tokens: self.tokens.copied(),
+            wakes: self.wakes.copied(),
+            releases: self.releases.copied(),
+            n: self.n,
+            c: self.c,
+            woke: self.woke,
+            released: self.released,
+        }
     }
 
     fn fresh(&mut self) -> Result<(), Errno> {
@@ -626,6 +682,46 @@ impl<'a> Table<'a> {
             writable: a.value & 2 != 0,
             hung_up: a.value & 4 != 0,
         })
+    }
+}
+
+/// Writes zeros into a ring, but for `held` entries from `head` on.
+fn wipe_outside<T: Copy + Default>(ring: &mut [T], head: u64, held: u64) {
+    let (head, held) = (head as usize, held as usize);
+    let free = ring.len() - held;
+    for i in 0..free {
+        let at = (head + held + i) % ring.len();
+        ring[at] = T::default();
+    }
+}
+
+impl Table<'_> {
+    /// Writes zeros over what a slot no longer holds: bytes and items that were taken, and, where it is closed or has
+    /// none, its name. Calls leave these cells as they are, and no call looks at them. docs/STORAGE.md has the layout.
+    ///
+    /// # Errors
+    /// [`Errno::Invalid`] where there is no such slot; [`Errno::Short`], [`Errno::Damaged`].
+    pub fn wipe(&mut self, slot: usize) -> Result<(), Errno> {
+        match call!(self, eid_readiness, 0) {
+            Err(Errno::BadHandle) if slot < self.n => {}
+            Err(Errno::BadHandle) | Ok(_) => return Err(Errno::Invalid),
+            Err(other) => return Err(other),
+        }
+        let (n, c) = (self.n, self.c);
+        let mut of = [0; 16];
+        of.copy_from_slice(&self.words[8 + 16 * slot..24 + 16 * slot]);
+        if of[1] == 0 {
+            of[2..].fill(0);
+        }
+        let places = 8 + 16 * n + 256 * slot;
+        let queue = 8 + 272 * n + n * slot;
+        let name = c * n + 255 * slot;
+        wipe_outside(&mut self.bytes[c * slot..c * (slot + 1)], of[9], of[10].wrapping_sub(of[11]));
+        wipe_outside(&mut self.tokens[256 * slot..256 * (slot + 1)], of[12], of[13]);
+        wipe_outside(&mut self.words[places..places + 256], of[12], of[13]);
+        wipe_outside(&mut self.words[queue..queue + n], of[4], of[5]);
+        self.bytes[name + of[2] as usize..name + 255].fill(0);
+        Ok(())
     }
 }
 

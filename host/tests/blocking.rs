@@ -1,6 +1,6 @@
 //! The host with one lock: who sleeps is woken.
 
-use std::sync::Arc;
+use std::sync::{Arc, mpsc};
 use std::thread;
 use std::time::Duration;
 
@@ -19,13 +19,12 @@ fn connected(host: &Host) -> (Handle, Handle, Handle) {
 
 /// Runs `f` in a thread, lets it fall asleep, then runs `then`; what `f` answered.
 fn asleep<T: Send + 'static>(host: &Arc<Host>, f: impl FnOnce(&Host) -> T + Send + 'static, then: impl FnOnce()) -> T {
-    let its = host.clone();
-    let thread = thread::spawn(move || f(&its));
-    thread::sleep(Duration::from_millis(30));
-    assert!(!thread.is_finished(), "it sleeps");
+    let (its, (send, answered)) = (host.clone(), mpsc::channel());
+    thread::spawn(move || send.send(f(&its)));
+    assert!(answered.recv_timeout(Duration::from_millis(30)).is_err(), "it sleeps");
     assert_eq!(host.asleep_beside_work(), Vec::<String>::new());
     then();
-    thread.join().unwrap()
+    answered.recv_timeout(Duration::from_secs(10)).unwrap_or_else(|_| panic!("nobody wakes it:\n{}", host.print()))
 }
 
 #[test]
@@ -104,4 +103,20 @@ fn a_connect_on_a_closed_handle_is_told() {
     let client = host.socket().unwrap();
     let told = asleep(&host, move |h| h.connect(client, b"/a"), || host.close(client).unwrap());
     assert_eq!(told, Err(Errno::BadHandle));
+}
+
+#[test]
+fn a_connect_on_a_socket_that_another_thread_takes_is_told() {
+    let host = Arc::new(Host::new(6, 8).unwrap());
+    for (name, backlog) in [(b"/a", 0), (b"/b", 1)] {
+        let listener = host.socket().unwrap();
+        host.bind(listener, name).unwrap();
+        host.listen(listener, backlog).unwrap();
+    }
+    let client = host.socket().unwrap();
+    let told = asleep(&host, move |h| h.connect(client, b"/a"), || host.connect(client, b"/b").unwrap());
+    assert_eq!(told, Err(Errno::IsConnected));
+    let client = host.socket().unwrap();
+    let told = asleep(&host, move |h| h.connect(client, b"/a"), || host.bind(client, b"/c").unwrap());
+    assert_eq!(told, Err(Errno::Invalid));
 }

@@ -38,6 +38,7 @@ fn sizes_in_range() {
             let s = sizes(n, c).unwrap();
             assert!(8 * s.words + s.bytes + 4 * s.tokens <= n * (c + 65_536) + 65_536);
             assert_eq!((s.wakes, s.releases), (n + 1, 256 * n));
+            assert_eq!(s, Sizes::least(n, c));
         }
     }
 }
@@ -178,6 +179,58 @@ fn ends() {
     table.close(listener).unwrap();
     assert_eq!((woken(&table), table.releases()), (vec![None, Some(other)], &[Item(3), Item(4)][..]));
     assert_eq!(table.read(other, &mut [0; 4]), Ok(0));
+}
+
+#[test]
+fn what_is_gone_can_be_wiped() {
+    let (n, c) = (4, 8);
+    let Sizes { words, bytes, tokens, wakes, releases } = sizes(n, c).unwrap();
+    let (mut w, mut b, mut t) = (vec![0; words], vec![0; bytes], vec![0; tokens]);
+    let (mut woke, mut back) = (vec![Wake::default(); wakes], vec![Item(0); releases]);
+    let lent = Lent { words: &mut w, bytes: &mut b, tokens: &mut t, wakes: &mut woke, releases: &mut back };
+    let mut table = Table::make(lent, n, c).unwrap();
+    let (listener, client, server) = connected(&mut table);
+    let mut buf = [0; 8];
+    table.sendmsg(client, b"secret", &[Item(77)]).unwrap();
+    table.recvmsg(server, &mut buf, &mut [Item(0)]).unwrap();
+    table.sendmsg(client, b"queued", &[Item(78)]).unwrap();
+    table.sendmsg(server, b"answer", &[Item(79)]).unwrap();
+    table.close(client).unwrap();
+    let pending = table.socket(1, 1, 0).unwrap();
+    table.connect(pending, b"/a").unwrap();
+    for slot in 0..n {
+        table.wipe(slot).unwrap();
+    }
+    assert_eq!((table.wipe(n), table.wakes()), (Err(Errno::Invalid), &[][..]));
+    // What is held is as it was.
+    assert_eq!((table.read(server, &mut buf), &buf[..6], table.releases()), (Ok(6), &b"queued"[..], &[Item(78)][..]));
+    let last = table.accept(listener).unwrap();
+    table.write(pending, b"12345678").unwrap();
+    assert_eq!(table.read(last, &mut buf), Ok(8));
+    for socket in [listener, server, pending, last] {
+        table.close(socket).unwrap();
+    }
+    for slot in 0..n {
+        table.wipe(slot).unwrap();
+    }
+    assert_eq!(table.socket(1, 1, 0).map(Handle::slot), Ok(0));
+    drop(table);
+    assert!(b.iter().all(|&byte| byte == 0) && t.iter().all(|&item| item == 0));
+    w[0] = 9;
+    let lent = Lent { words: &mut w, bytes: &mut b, tokens: &mut t, wakes: &mut woke, releases: &mut back };
+    assert_eq!(Table::over(lent, n, c).wipe(0), Err(Errno::Damaged));
+}
+
+#[test]
+fn a_duplicate_goes_its_own_way() {
+    let mut table = Table::owned(3, 8).unwrap();
+    let (_, client, server) = connected(&mut table);
+    table.write(client, b"hello").unwrap();
+    let mut copy = table.duplicate();
+    assert_eq!(woken(&copy), [Some(server)]);
+    let mut buf = [0; 8];
+    assert_eq!((copy.read(server, &mut buf), copy.read(server, &mut buf)), (Ok(5), Err(Errno::Again)));
+    assert_eq!((table.read(server, &mut buf), &buf[..5]), (Ok(5), &b"hello"[..]));
 }
 
 #[test]
