@@ -8,6 +8,7 @@ use native.Mathlib.Omega.{arith}
 use lib.ListN.{length, take, set}
 use lib.Seq.{sets}
 use borrow.Author.Tests.{eq-eqb, ne-eqb}
+use Rattle.laws.proofs.Tests.{cond-both}
 use Rattle.inbox.specs.View.{count}
 use Rattle.inbox.specs.Well.{Well}
 use Rattle.inbox.specs.Promise.{policyOf, moveOn, Takes}
@@ -42,7 +43,7 @@ use Rattle.promise.proofs.Live.{Live, live, live-run, stale-run, state-seen}
 use Rattle.promise.proofs.Called.{loadedAt, Unconnected, unconnected}
 use Rattle.promise.proofs.Held.{ring-long, places-long, tokens-long, inboxIn, Sized, sized, Held, held, gone-hidden, placed-same, connected-fit, connected-keeps, connected-put}
 use Rattle.moving.specs.Parts.{withInbox}
-use Rattle.draining.specs.Parts.{Drains, Wakes}
+use Rattle.draining.specs.Parts.{Drains, nothingQueued, Wakes}
 
 -- ── The wake list ──
 
@@ -53,6 +54,18 @@ none-woken wakes h false e = record { list = refl; filled = refl }
 pub one-woken : (wakes : List ℕ) (h : ℕ) (on : Bool) → not on ≡ false → Wakes wakes (set wakes 0 h) h on 1
 one-woken wakes h true e = record { list = refl; filled = refl }
 one-woken wakes h false e = absurd (true≢false e)
+
+-- ── Nothing queued ──
+
+module _ (x o : Bool) (r : Answer) where
+  pub queued-shut : x ≡ true → r ≡ acceptedWith 0 0 → r ≡ nothingQueued x o
+  queued-shut e er = rw e er
+
+  pub queued-gone : x ≡ false → not o ≡ true → r ≡ acceptedWith 0 0 → r ≡ nothingQueued x o
+  queued-gone e f er = rw (e, f) er
+
+  pub queued-waits : x ≡ false → not o ≡ false → r ≡ refusedWith 8 → r ≡ nothingQueued x o
+  queued-waits e f er = rw (e, f) er
 
 -- ── The rule ──
 
@@ -228,21 +241,19 @@ module _ {n c : ℕ} {w b t : List ℕ} {u v : ℕ} (a : Admitted n c (lent w b 
                     er;
               }
 
-          pub drains-shut : con .«inbox_closed» ≡ true → r ≡ acceptedWith 0 0 → Drains n c (lent w b t) (lent w b t) h policy buf buf items items l l r
-          drains-shut d er = none-left (rw d refl) er
-
-          pub drains-gone : con .«inbox_closed» ≡ false → not g ≡ true → r ≡ acceptedWith 0 0 → Drains n c (lent w b t) (lent w b t) h policy buf buf items items l l r
-          drains-gone d f er = none-left (rw (d, f) refl) er
-
-          pub drains-waits : con .«inbox_closed» ≡ false → not g ≡ false → r ≡ refusedWith 8 → Drains n c (lent w b t) (lent w b t) h policy buf buf items items l l r
-          drains-waits d f er =
+          none-yet : con .«inbox_closed» || not g ≡ false → r ≡ refusedWith 8 → Drains n c (lent w b t) (lent w b t) h policy buf buf items items l l r
+          none-yet d er =
               record {
                 drains = λ call to.
                     refused-drain n c (lent w b t) l r _ 8 buf items
                     (to ∙ ap (drain (view n c (lent w b t)) h (length buf) policy) (at-hand .state-is)
-                    ∙ drain-waits (view n c (lent w b t)) h (length buf) policy (con .peer .0) _ (con .«inbox_closed») (con .«outbox_closed») (con .inbox) (at-hand .sizes) (sym eq ∙ z) (rw (gone, d, f) refl))
+                    ∙ drain-waits (view n c (lent w b t)) h (length buf) policy (con .peer .0) _ (con .«inbox_closed») (con .«outbox_closed») (con .inbox) (at-hand .sizes) (sym eq ∙ z) (rw gone d))
                     (λ y. omega arith) er;
               }
+
+          pub drains-none : r ≡ nothingQueued (con .«inbox_closed») g → Drains n c (lent w b t) (lent w b t) h policy buf buf items items l l r
+          drains-none er =
+              cond-both (λ (x : Answer). r ≡ x → Drains n c (lent w b t) (lent w b t) h policy buf buf items items l l r) (con .«inbox_closed» || not g) none-left none-yet er
 
         pub drains-taken : (q ≡ 0 → ⊥) → (buf′ items′ rel rel′ : List ℕ) (tk : Taken)
             → Takes (part (ringBase c i) c b) (part (placesBase n i) 256 w) (part (tokensBase i) 256 t) buf buf′ policy items items′ rel rel′ (con .inbox) tk

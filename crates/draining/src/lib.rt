@@ -10,7 +10,7 @@ ghost use Rattle.storage.specs.Rows.{lent};
 ghost use Rattle.storage.specs.Finding.{liveIn};
 ghost use Rattle.table.specs.Admission.{Admitted};
 ghost use Rattle.promise.specs.Promise.{lists, Runs, Fills};
-ghost use Rattle.draining.specs.Parts.{Drains, Wakes};
+ghost use Rattle.draining.specs.Parts.{Drains, nothingQueued, Wakes};
 use inbox::AttachedItems;
 use promise::Answer;
 use storage::State;
@@ -122,13 +122,7 @@ fn drain(
     let inbox = connection.inbox;
     let peer_open = handles::is_open(words, n, peer);
     if inbox.queued() == 0 {
-        if connection.inbox_closed {
-            return promise::accepted(0, 0);
-        }
-        if !peer_open {
-            return promise::accepted(0, 0);
-        }
-        return promise::refused(Errno::EAGAIN);
+        return nothing_queued(connection.inbox_closed, peer_open);
     }
     let taken = inboxes::take(
         words,
@@ -154,6 +148,19 @@ fn drain(
         wakes: woken,
         releases: taken.released as u64,
     }
+}
+
+// "0 bytes if the inbox is closed or the peer gone, else 8; no wake"
+fn nothing_queued(inbox_closed: bool, peer_open: bool) -> Answer
+    ensures { λ r. ⌜ r ≡ nothingQueued «inbox_closed» «peer_open» ⌝ }
+{
+    if inbox_closed {
+        return promise::accepted(0, 0);
+    }
+    if !peer_open {
+        return promise::accepted(0, 0);
+    }
+    promise::refused(Errno::EAGAIN)
 }
 
 // Puts `h` into the wake list where it is to be woken; how many that makes.

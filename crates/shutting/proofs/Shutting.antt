@@ -10,7 +10,7 @@ use native.Mathlib.Omega.{arith}
 use lib.IntN.{ℤ, pos, negsuc}
 use lib.ListN.{length, set}
 use lib.Seq.{sets}
-use borrow.Author.Tests.{ne-eqb, eqb-true}
+use borrow.Author.Tests.{not-true, not-false, ne-eqb, eqb-true}
 use Rattle.words.specs.Integers.{equals}
 use Rattle.words.specs.Numbers.{numberOf}
 use Rattle.words.specs.declared.Errno.{Errno}
@@ -38,7 +38,7 @@ use Rattle.storage.specs.Finding.{openIn, liveIn}
 use Rattle.storage.specs.declared.Cell.{Cell}
 use Rattle.storage.specs.declared.Slot.{Slot}
 use Rattle.storage.specs.declared.State.{State}
-use Rattle.storage.specs.declared.State.the-variants.{Connected}
+use Rattle.storage.specs.declared.State.the-variants.{Closed, Unbound, Bound, Listening, Connected}
 use Rattle.storage.specs.declared.Connection.{Connection}
 use Rattle.storage.proofs.Framing.{store-rows}
 use Rattle.storage.proofs.Around.{store-around, around-then, roomy-around}
@@ -49,12 +49,12 @@ use Rattle.promise.specs.Promise.{Lists, lists, Stored, Done}
 use Rattle.promise.specs.declared.Answer.{Answer}
 use Rattle.promise.proofs.Known.{Known, known, refused-done}
 use Rattle.promise.proofs.Asked.{slot-in}
-use Rattle.promise.proofs.Kept.{Keeps, keeps-same, row-changed, row-other}
+use Rattle.promise.proofs.Kept.{connected-inj, Keeps, keeps-same, row-changed, row-other}
 use Rattle.promise.proofs.Changed.{Fit, fit-same, row-stored, rows-kept, released-done}
-use Rattle.promise.proofs.Called.{loadedAt, Unconnected, unconnected}
+use Rattle.promise.proofs.Called.{loadedAt, Unconnected, not-connected, unconnected}
 use Rattle.promise.proofs.Held.{ring-long, places-long, tokens-long, Held, held, placed-same, connected-fit, connected-keeps, connected-put}
 use Rattle.promise.proofs.Live.{Live, live, opened, live-run, stale-run, state-seen}
-use Rattle.shutting.specs.Parts.{readsOf, writesOf, shutWith, endedWith, leftOf, droppedOf, Drops, Ends, Shuts}
+use Rattle.shutting.specs.Parts.{readsOf, writesOf, shutWith, endedWith, leftOf, droppedOf, Drops, Ends, Follows, Shuts}
 use Rattle.shutting.proofs.Ended.{left-range, left-shows, dropped-all, dropped-long, left-hidden, stays-hidden}
 
 -- ── The parts ──
@@ -268,28 +268,46 @@ module _ (n c : ℕ) (w b t : List ℕ) (kn : Known n c (lent w b t)) (h i : ℕ
 
 -- ── As the code has it ──
 
-no-peer : {A : Type 0} (p : ℕ) (r : Row) (g : ℕ) (σ : State) → Unconnected σ → peerOf (showIn r g σ .state) ≡ some p → A
-unfolding peerOf
-no-peer {A} p r g σ k = unconnected (λ τ. peerOf τ ≡ some p → A) (λ e. absurd (none-some e)) (λ m e. absurd (none-some e)) (λ m d q e. absurd (none-some e)) r g σ k
+-- ── end_peer ──
+
+module _ (p : ℕ) (rd wr : Bool) (w : List ℕ) (j : ℕ) (ej : j ≡ slotOf p) where
+  pub follow-in : 8 + 16 * slotOf p + 16 ≤ length w → 8 + 16 * j + 16 ≤ length w
+  follow-in h = omega arith
+
+  module _ (slot : Slot) (es : slot ≡ loadedAt w j) where
+    loaded-at : slot ≡ loadedAt w (slotOf p)
+    loaded-at = es ∙ ap (loadedAt w) ej
+
+    pub follows-not : Unconnected (slot .state) → Follows p rd wr w w
+    follows-not u = record { words = λ k e. absurd (not-connected (slot .state) u k (ap (λ (q : Slot). q .state) loaded-at ∙ e)) }
+
+    pub follows : (k : Connection) → slot .state ≡ Connected k → (w′ : List ℕ) → w′ ≡ storeAt w j (cellOf (slot .generation) (Connected (endedWith k (k .inbox) wr rd))) → Follows p rd wr w w′
+    follows k ek w′ ew =
+        record {
+          words = λ k₂ e.
+              let same : k ≡ k₂ = connected-inj (sym ek ∙ ap (λ (q : Slot). q .state) loaded-at ∙ e) in
+              ew ∙ ap₂ (λ (x : ℕ) (q : Connection). storeAt w x (cellOf (slot .generation) (Connected (endedWith q (q .inbox) wr rd)))) ej same
+              ∙ ap (λ (q : Slot). storeAt w (slotOf p) (cellOf (q .generation) (Connected (endedWith k₂ (k₂ .inbox) wr rd)))) loaded-at;
+        }
+
+-- ── shut ──
+
+-- a peer is connected
+has-peer : (p : ℕ) (r : Row) (g : ℕ) (σ : State) → peerOf (showIn r g σ .state) ≡ some p → (k : Connection) × (σ ≡ Connected k)
+unfolding peerOf showIn
+has-peer p r g Closed e = absurd (none-some e)
+has-peer p r g Unbound e = absurd (none-some e)
+has-peer p r g (Bound m) e = absurd (none-some e)
+has-peer p r g (Listening q) e = absurd (none-some e)
+has-peer p r g (Connected k) e = (k, refl)
 
 module _ {n c : ℕ} {w b t : List ℕ} {u v : ℕ} (a : Admitted n c (lent w b t) u v) where
   pub two-wakes : 1 < u
   two-wakes = let z = a .wake-list in let y = a .some-slot in omega arith
 
-  end-asks : (h i : ℕ) (k : Connection) → Held n c (lent w b t) h i k
-      → ((8 + 16 * i + 16 ≤ length w) × (256 * i + 256 ≤ length t) × (c ≤ 65536) × (256 ≤ v)) × ((k .inbox .head < c) × (count (k .inbox) ≤ c) × (k .inbox .first < 256) × (k .inbox .items ≤ 256))
-  end-asks h i k hd =
-      let z = hd .within in
-      let x = a .tokens in
-      let y = a .release-list in
-      let g = hd .range in
-      ((slot-in a i z, omega arith, a .small, omega arith), (g .head-in, g .fits, g .first-in, g .items-in))
-
   module _ (h : ℕ) (e : liveIn n w h ≡ true) where
     lv : Live n c (lent w b t) h
     lv = live n c (lent w b t) h true (sym e) refl
-
-    -- ── shut ──
 
     module _ (i : ℕ) (ei : i ≡ slotOf h) where
       module _ (slot : Slot) (es : slot ≡ loadedAt w i) where
@@ -314,69 +332,69 @@ module _ {n c : ℕ} {w b t : List ℕ} {u v : ℕ} (a : Admitted n c (lent w b 
           at-hand = held n c (lent w b t) h i k (known a) ei (lv .opened) (sym (ap (λ (q : Slot). q .state) es) ∙ ek)
 
           pub end-asked : ((8 + 16 * i + 16 ≤ length w) × (256 * i + 256 ≤ length t) × (c ≤ 65536) × (256 ≤ v)) × ((k .inbox .head < c) × (count (k .inbox) ≤ c) × (k .inbox .first < 256) × (k .inbox .items ≤ 256))
-          end-asked = end-asks h i k at-hand
+          end-asked =
+              let z = at-hand .within in
+              let x = a .tokens in
+              let y = a .release-list in
+              let g = at-hand .range in
+              ((slot-in a i z, omega arith, a .small, omega arith), (g .head-in, g .fits, g .first-in, g .items-in))
 
           module _ (f : Bool) (ef : f ≡ openIn n w (k .peer .0)) where
-            pub pair-asked : f ≡ true → Admitted n c (lent w b t) u v
-                × (((liveIn n w h ≡ true) × (openIn n w (k .peer .0) ≡ true)) × ((stateOf (cellAt w (slotOf h)) ≡ Connected k) × (slot .generation ≡ cellAt w (slotOf h) .generation)))
-            pair-asked z = (a, ((e, sym ef ∙ z), (sym (ap (λ (q : Slot). q .state) loaded) ∙ ek, ap (λ (q : Slot). q .generation) loaded)))
+            gone : isOpen (view n c (lent w b t)) (k .peer .0) ≡ f
+            gone = sym (open-view n c (lent w b t) (k .peer .0)) ∙ sym ef
 
-            pub shuts-alone : f ≡ false → (rd wr : Bool) (w₁ wk rl rl′ : List ℕ) (m : ℕ) (r : Answer) → Ends c i (slot .generation) k rd wr w w₁ t rl rl′ m → r ≡ shutWith 1 m
-                → Shuts n c (lent w b t) (lent w₁ b t) h rd wr (lists wk rl) (lists (set wk 0 h) rl′) r
-            shuts-alone z rd wr w₁ wk rl rl′ m r en er =
-                shut-alone n c w b t (known a) h i k at-hand rd wr w₁ rl rl′ m (subst (λ (g : ℕ). Ends c i g k rd wr w w₁ t rl rl′ m) (ap (λ (q : Slot). q .generation) es) en) wk r
-                (sym (open-view n c (lent w b t) (k .peer .0)) ∙ sym ef ∙ z) er
+            module _ (rd wr : Bool) (w₁ rl rl′ : List ℕ) (m : ℕ) (en : Ends c i (slot .generation) k rd wr w w₁ t rl rl′ m) where
+              ended : Ends c i (cellAt w i .generation) k rd wr w w₁ t rl rl′ m
+              ended = subst (λ (g : ℕ). Ends c i g k rd wr w w₁ t rl rl′ m) (ap (λ (q : Slot). q .generation) es) en
 
-    -- ── shut_pair ──
+              pub shuts-alone : (wk : List ℕ) (r : Answer) → not f ≡ true → r ≡ shutWith 1 m → Shuts n c (lent w b t) (lent w₁ b t) h rd wr (lists wk rl) (lists (set wk 0 h) rl′) r
+              shuts-alone wk r z er = shut-alone n c w b t (known a) h i k at-hand rd wr w₁ rl rl′ m ended wk r (gone ∙ not-true f z) er
 
-    module _ (k : Connection) (o : openIn n w (k .peer .0) ≡ true) (ek : stateOf (cellAt w (slotOf h)) ≡ Connected k) (g : ℕ) (eg : g ≡ cellAt w (slotOf h) .generation) (i : ℕ) (ei : i ≡ slotOf h)
-        (j : ℕ) (ej : j ≡ slotOf (k .peer .0)) where
-      peer-open : isOpen (view n c (lent w b t)) (k .peer .0) ≡ true
-      peer-open = sym (open-view n c (lent w b t) (k .peer .0)) ∙ o
+              module _ (z : not f ≡ false) where
+                peer-open : isOpen (view n c (lent w b t)) (k .peer .0) ≡ true
+                peer-open = gone ∙ not-false f z
 
-      mine : Held n c (lent w b t) h i k
-      mine = held n c (lent w b t) h i k (known a) ei (lv .opened) (ap (λ (x : ℕ). stateOf (cellAt w x)) ei ∙ ek)
+                peer-less : slotOf (k .peer .0) < n
+                peer-less = opened n c (lent w b t) (k .peer .0) peer-open .within
 
-      peer-less : j < n
-      peer-less = let z = opened n c (lent w b t) (k .peer .0) peer-open .within in omega arith
+                points-there : peerOf (model.stateOf (view n c (lent w b t)) h) ≡ some (k .peer .0)
+                unfolding peerOf
+                points-there = ap peerOf (at-hand .state-is)
 
-      pub peer-in : 8 + 16 * j + 16 ≤ length w
-      peer-in = slot-in a j peer-less
+                slots-differ : slotOf (k .peer .0) ≢ i
+                slots-differ y =
+                    slots-apart (view n c (lent w b t)) (k .peer .0) h peer-open (lv .opened) (λ x. known a .good .sound .wf .apart h (lv .opened) (points-there ∙ ap some x)) (y ∙ ei)
 
-      pub own-asked : ((8 + 16 * i + 16 ≤ length w) × (256 * i + 256 ≤ length t) × (c ≤ 65536) × (256 ≤ v)) × ((k .inbox .head < c) × (count (k .inbox) ≤ c) × (k .inbox .first < 256) × (k .inbox .items ≤ 256))
-      own-asked = end-asks h i k mine
+                peer-is : (k₂ : Connection) × (stateOf (cellAt w (slotOf (k .peer .0))) ≡ Connected k₂)
+                peer-is =
+                    has-peer h (rowAt n c (lent w b t) (slotOf (k .peer .0))) (cellAt w (slotOf (k .peer .0)) .generation) (stateOf (cellAt w (slotOf (k .peer .0))))
+                    (ap peerOf (sym (state-seen n c (lent w b t) (k .peer .0) (stateOf (cellAt w (slotOf (k .peer .0)))) peer-less refl))
+                    ∙ known a .good .sound .wf .paired h (k .peer .0) (lv .opened) points-there peer-open)
 
-      pub peer-still : (rd wr : Bool) (w₁ rl rl′ : List ℕ) (m : ℕ) → Ends c i g k rd wr w w₁ t rl rl′ m → 8 + 16 * j + 16 ≤ length w₁
-      peer-still rd wr w₁ rl rl′ m en =
-          let z = peer-in in
-          let y = ap length (en .words) ∙ store-around n c w b t (known a .roomy) i (mine .within) (cellOf g (Connected (endedWith k (leftOf c rd (k .inbox)) rd wr))) .words-long in
-          omega arith
+                abbrev cell : Cell
+                cell = cellOf (cellAt w i .generation) (Connected (endedWith k (leftOf c rd (k .inbox)) rd wr))
 
-      points-there : peerOf (model.stateOf (view n c (lent w b t)) h) ≡ some (k .peer .0)
-      unfolding peerOf
-      points-there = ap peerOf (mine .state-is)
+                -- the own socket's end leaves the peer
+                same-cell : cellAt w₁ (slotOf (k .peer .0)) ≡ cellAt w (slotOf (k .peer .0))
+                unfolding rowAt
+                same-cell =
+                    ap (λ (r : Row). r .cell)
+                    (row-other n c (lent w b t) (lent w₁ b t) i (withCell cell (rowAt n c (lent w b t) i)) (at-hand .within)
+                    (ap (λ (y : List ℕ). rows n c (lent y b t)) (ended .words) ∙ store-rows n c w b t (known a .roomy) i (at-hand .within) cell) (slotOf (k .peer .0)) peer-less slots-differ)
 
-      slots-differ : j ≢ i
-      slots-differ z =
-          slots-apart (view n c (lent w b t)) (k .peer .0) h peer-open (lv .opened)
-          (λ y. known a .good .sound .wf .apart h (lv .opened) (points-there ∙ ap some y)) (sym ej ∙ z ∙ ei)
+                pub peer-still : 8 + 16 * slotOf (k .peer .0) + 16 ≤ length w₁
+                peer-still =
+                    let x = slot-in a (slotOf (k .peer .0)) peer-less in
+                    let y = ap length (ended .words) ∙ store-around n c w b t (known a .roomy) i (at-hand .within) cell .words-long in
+                    omega arith
 
-      module _ (slot : Slot) (es : slot ≡ loadedAt w j) where
-        pub always-connected : {A : Type 0} → Unconnected (slot .state) → A
-        always-connected d =
-            no-peer h (rowAt n c (lent w b t) (slotOf (k .peer .0))) (cellAt w (slotOf (k .peer .0)) .generation) (slot .state) d
-            (ap peerOf
-            (sym (state-seen n c (lent w b t) (k .peer .0) (slot .state) (opened n c (lent w b t) (k .peer .0) peer-open .within) (sym (ap (λ (q : Slot). q .state) (es ∙ ap (loadedAt w) ej)))))
-            ∙ known a .good .sound .wf .paired h (k .peer .0) (lv .opened) points-there peer-open)
-
-        pub shuts-both : (k₂ : Connection) → slot .state ≡ Connected k₂ → (rd wr : Bool) (w₁ w₂ wk rl rl′ : List ℕ) (m : ℕ) (r : Answer) → Ends c i g k rd wr w w₁ t rl rl′ m
-            → w₂ ≡ storeAt w₁ j (cellOf (slot .generation) (Connected (endedWith k₂ (k₂ .inbox) wr rd))) → r ≡ shutWith 2 m
-            → Shuts n c (lent w b t) (lent w₂ b t) h rd wr (lists wk rl) (lists (set (set wk 0 h) 1 (k .peer .0)) rl′) r
-        shuts-both k₂ ek₂ rd wr w₁ w₂ wk rl rl′ m r en ew er =
-            shut-both n c w b t (known a) h i k mine rd wr w₁ rl rl′ m
-            (subst (λ (x : ℕ). Ends c i x k rd wr w w₁ t rl rl′ m) (eg ∙ ap (λ (x : ℕ). cellAt w x .generation) (sym ei)) en) j k₂
-            (held n c (lent w b t) (k .peer .0) j k₂ (known a) ej peer-open (sym (ap (λ (q : Slot). q .state) es) ∙ ek₂)) slots-differ w₂ wk r
-            (ew ∙ ap (λ (x : ℕ). storeAt w₁ j (cellOf x (Connected (endedWith k₂ (k₂ .inbox) wr rd)))) (ap (λ (q : Slot). q .generation) es)) er
+                pub shuts-both : (w₂ wk : List ℕ) (r : Answer) → Follows (k .peer .0) rd wr w₁ w₂ → r ≡ shutWith 2 m
+                    → Shuts n c (lent w b t) (lent w₂ b t) h rd wr (lists wk rl) (lists (set (set wk 0 h) 1 (k .peer .0)) rl′) r
+                shuts-both w₂ wk r fo er =
+                    let j = slotOf (k .peer .0) in
+                    let k₂ = peer-is .0 in
+                    shut-both n c w b t (known a) h i k at-hand rd wr w₁ rl rl′ m ended j k₂ (held n c (lent w b t) (k .peer .0) j k₂ (known a) refl peer-open (peer-is .1)) slots-differ w₂ wk r
+                    (fo .words k₂ (ap stateOf same-cell ∙ peer-is .1) ∙ ap (λ (x : Cell). storeAt w₁ j (cellOf (x .generation) (Connected (endedWith k₂ (k₂ .inbox) wr rd)))) same-cell) er
 
 -- ── shutdown ──
 

@@ -10,11 +10,12 @@ use Rattle.inbox.specs.Promise.{moveOn}
 use Rattle.inbox.specs.declared.Inbox.{Inbox}
 use Rattle.inbox.specs.declared.Discarded.{Discarded}
 use Rattle.rules.specs.Table as model
+use Rattle.rules.specs.Table.{slotOf}
 use Rattle.rules.specs.Outcome.{Call}
 use Rattle.rules.specs.Ending.{doShutdown}
 use Rattle.rules.specs.Run.{run}
 use Rattle.storage.specs.Layout.{part, tokensBase}
-use Rattle.storage.specs.Cells.{storeAt, cellOf}
+use Rattle.storage.specs.Cells.{cellAt, stateOf, storeAt, cellOf}
 use Rattle.storage.specs.Rows.{Store}
 use Rattle.storage.specs.View.{view}
 use Rattle.storage.specs.declared.State.the-variants.{Connected}
@@ -59,6 +60,11 @@ pub record Ends (c i g : ℕ) (k : Connection) (rd wr : Bool) (w w′ tokens rel
   pub words : w′ ≡ storeAt w i (cellOf g (Connected (endedWith k (leftOf c rd (k .inbox)) rd wr)))
   pub releases-it : releases′ ≡ sets releases 0 (droppedOf rd (part (tokensBase i) 256 tokens) (k .inbox))
   pub released-are : m ≡ cond rd (k .inbox .items) 0
+
+-- the peer p, where it is connected: its inbox stays
+pub record Follows (p : ℕ) (rd wr : Bool) (w w′ : List ℕ) : Type 0 where
+  pub words : (k : Connection) → stateOf (cellAt w (slotOf p)) ≡ Connected k
+      → w′ ≡ storeAt w (slotOf p) (cellOf (cellAt w (slotOf p) .generation) (Connected (endedWith k (k .inbox) wr rd)))
 
 -- a shutdown of the live socket h
 pub record Shuts (n c : ℕ) (s s′ : Store) (h : ℕ) (rd wr : Bool) (l l′ : Lists) (r : Answer) : Type 0 where

@@ -7,13 +7,13 @@ ghost use Rattle.inbox.specs.View.{count};
 ghost use Rattle.rules.specs.Outcome.{Call};
 ghost use Rattle.rules.specs.Table.{slotOf};
 ghost use Rattle.storage.specs.Layout.{part, tokensBase};
-ghost use Rattle.storage.specs.Cells.{cellAt, stateOf, storeAt, cellOf};
+ghost use Rattle.storage.specs.Cells.{storeAt, cellOf};
 ghost use Rattle.storage.specs.Rows.{lent};
-ghost use Rattle.storage.specs.Finding.{openIn, liveIn};
+ghost use Rattle.storage.specs.Finding.{liveIn};
 ghost use Rattle.storage.specs.declared.State.the-variants.{Connected};
 ghost use Rattle.table.specs.Admission.{Admitted};
 ghost use Rattle.promise.specs.Promise.{lists, Runs};
-ghost use Rattle.shutting.specs.Parts.{readsOf, writesOf, shutWith, endedWith, Drops, Ends, Shuts};
+ghost use Rattle.shutting.specs.Parts.{readsOf, writesOf, shutWith, endedWith, Drops, Ends, Follows, Shuts};
 use abi::How;
 use abi::ShutdownHow;
 use inbox::Discarded;
@@ -97,22 +97,7 @@ fn shut(
     let State::Connected(connection) = state else {
         return promise::refused(Errno::ENOTCONN);
     };
-    if handles::is_open(words, n, connection.peer) {
-        return shut_pair(
-            words,
-            bytes,
-            tokens,
-            wakes,
-            releases,
-            n,
-            c,
-            h,
-            slot.generation,
-            connection,
-            read,
-            write,
-        );
-    }
+    let peer_open = handles::is_open(words, n, connection.peer);
     let released = end_own(
         words,
         tokens,
@@ -125,50 +110,10 @@ fn shut(
         write,
     );
     wakes[0] = h.0;
-    shut_down(1, released)
-}
-
-// The open peer closes the other end. No admitted table has one that is not connected.
-fn shut_pair(
-    words: &mut [u64],
-    bytes: &[u8],
-    tokens: &[u32],
-    wakes: &mut [u64],
-    releases: &mut [u32],
-    n: usize,
-    c: usize,
-    h: Handle,
-    generation: u64,
-    connection: Connection,
-    read: bool,
-    write: bool,
-) -> Answer
-    requires { ⌜ Admitted n c (lent (now words) (now bytes) (now tokens)) (length (now wakes)) (length (now releases)) ⌝ }
-    requires { ⌜ (liveIn n (now words) (h .0) ≡ true) × (openIn n (now words) (connection .peer .0) ≡ true) ⌝ }
-    requires { ⌜ (stateOf (cellAt (now words) (slotOf (h .0))) ≡ Connected connection) × (generation ≡ cellAt (now words) (slotOf (h .0)) .generation) ⌝ }
-    ensures { λ r. ⌜ Shuts n c (lent (now (words .entry)) (now (bytes .entry)) (now (tokens .entry))) (lent (now (words .exit)) (now (bytes .entry)) (now (tokens .entry))) (h .0) read write (lists (now (wakes .entry)) (now (releases .entry))) (lists (now (wakes .exit)) (now (releases .exit))) r ⌝ }
-{
-    let i = handles::slot_of(h);
-    let j = handles::slot_of(connection.peer);
-    let slot = storage::load(words, j);
-    let state = slot.state;
-    let State::Connected(peer) = state else {
-        return promise::refused(Errno::DAMAGED);
-    };
-    let released = end_own(
-        words,
-        tokens,
-        releases,
-        c,
-        i,
-        generation,
-        connection,
-        read,
-        write,
-    );
-    let inbox = peer.inbox;
-    close_ends(words, j, slot.generation, peer, inbox, write, read);
-    wakes[0] = h.0;
+    if !peer_open {
+        return shut_down(1, released);
+    }
+    end_peer(words, connection.peer, read, write);
     wakes[1] = connection.peer.0;
     shut_down(2, released)
 }
@@ -207,6 +152,21 @@ fn end_own(
     let inbox = left.inbox;
     close_ends(words, i, generation, connection, inbox, read, write);
     left.released
+}
+
+// The open peer `p` closes the other end. No admitted table has one that is not connected.
+fn end_peer(words: &mut [u64], p: Handle, read: bool, write: bool)
+    requires { ⌜ 8 + 16 * slotOf (p .0) + 16 ≤ length (now words) ⌝ }
+    ensures { λ _. ⌜ Follows (p .0) read write (now (words .entry)) (now (words .exit)) ⌝ }
+{
+    let j = handles::slot_of(p);
+    let slot = storage::load(words, j);
+    let state = slot.state;
+    let State::Connected(peer) = state else {
+        return;
+    };
+    let inbox = peer.inbox;
+    close_ends(words, j, slot.generation, peer, inbox, write, read);
 }
 
 // "Read drops inbox bytes, releases its items"

@@ -5,7 +5,7 @@ use lib.ListN.{length}
 use Rattle.inbox.specs.Promise.{policyOf}
 use Rattle.promise.specs.Promise.{lists}
 use Rattle.promise.proofs.Asked.{some-wake, own-in}
-use Rattle.draining.proofs.Draining.{take-asked, drains-apart, drains-shut, drains-gone, drains-waits, drains-taken}
+use Rattle.draining.proofs.Draining.{take-asked, drains-apart, drains-none, drains-taken}
 
 slot-of-requires : tie.Need-slot-of-requires
 slot-of-requires c κs = search needs
@@ -40,56 +40,22 @@ is-open-requires c κs = search needs
 queued-requires : tie.Need-queued-requires
 queued-requires c κs = search needs
 
-accepted-requires : tie.Need-accepted-requires
-accepted-requires c κs = search needs
+nothing-queued-requires : tie.Need-nothing-queued-requires
+nothing-queued-requires c κs = search needs
 
 same-length-2 : tie.Need-same-length-2
 same-length-2 c = search needs
 
 returns-2 : tie.Need-returns-2
 returns-2 c =
-    let a = c .before .before .before .before .before .before .before .before .before .before .before .before .before .before .before .before .before .before .before .before .before .args in
-    let pre = c .before .before .before .before .before .before .before .before .before .before .before .before .before .before .before .before .before .before .before .before .before .pre in
-    let i = c .before .before .before .before .before .before .before .before .before .before .before .before .before .slot-of in
-    let s = c .before .before .before .before .before .before .before .before .before .before .before .load in
-    let k = c .before .before .before .before .before .before .before .before .before .state .given in
-    let g = c .before .before .before .before .is-open in
-    let q = c .before .before .before .queued in
-    drains-shut (pre .0) (a .h .0) (pre .1) (i .result) (i .ensures) (s .result) (s .ensures) (k .0 .0) (search k) (g .result) (g .ensures) (q .result) (q .ensures) (policyOf (a .policy) (length (a .items .now))) (a .buf .now) (a .items .now) (lists (a .wakes .now) (a .releases .now)) (c .accepted .result) (c .before .before .if1 .taken) (c .before .if2 .taken) (c .accepted .ensures)
-
-accepted-requires-2 : tie.Need-accepted-requires-2
-accepted-requires-2 c κs = search needs
-
-same-length-3 : tie.Need-same-length-3
-same-length-3 c = search needs
-
-returns-3 : tie.Need-returns-3
-returns-3 c =
-    let a = c .before .before .before .before .before .before .before .before .before .before .before .before .before .before .before .before .before .before .before .before .before .before .args in
-    let pre = c .before .before .before .before .before .before .before .before .before .before .before .before .before .before .before .before .before .before .before .before .before .before .pre in
-    let i = c .before .before .before .before .before .before .before .before .before .before .before .before .before .before .slot-of in
-    let s = c .before .before .before .before .before .before .before .before .before .before .before .before .load in
-    let k = c .before .before .before .before .before .before .before .before .before .before .state .given in
-    let g = c .before .before .before .before .before .is-open in
-    let q = c .before .before .before .before .queued in
-    drains-gone (pre .0) (a .h .0) (pre .1) (i .result) (i .ensures) (s .result) (s .ensures) (k .0 .0) (search k) (g .result) (g .ensures) (q .result) (q .ensures) (policyOf (a .policy) (length (a .items .now))) (a .buf .now) (a .items .now) (lists (a .wakes .now) (a .releases .now)) (c .accepted2 .result) (c .before .before .before .if1 .taken) (c .before .before .if2 .left) (c .before .if3 .taken) (c .accepted2 .ensures)
-
-refused-requires-2 : tie.Need-refused-requires-2
-refused-requires-2 c κs = search needs
-
-same-length-4 : tie.Need-same-length-4
-same-length-4 c = search needs
-
-returns-4 : tie.Need-returns-4
-returns-4 c =
-    let a = c .before .before .before .before .before .before .before .before .before .before .before .before .before .before .before .before .before .before .before .before .before .before .args in
-    let pre = c .before .before .before .before .before .before .before .before .before .before .before .before .before .before .before .before .before .before .before .before .before .before .pre in
-    let i = c .before .before .before .before .before .before .before .before .before .before .before .before .before .before .slot-of in
-    let s = c .before .before .before .before .before .before .before .before .before .before .before .before .load in
-    let k = c .before .before .before .before .before .before .before .before .before .before .state .given in
-    let g = c .before .before .before .before .before .is-open in
-    let q = c .before .before .before .before .queued in
-    drains-waits (pre .0) (a .h .0) (pre .1) (i .result) (i .ensures) (s .result) (s .ensures) (k .0 .0) (search k) (g .result) (g .ensures) (q .result) (q .ensures) (policyOf (a .policy) (length (a .items .now))) (a .buf .now) (a .items .now) (lists (a .wakes .now) (a .releases .now)) (c .refused2 .result) (c .before .before .before .if1 .taken) (c .before .before .if2 .left) (c .before .if3 .left) (c .refused2 .ensures)
+    let a = c .before .before .before .before .before .before .before .before .before .before .before .before .before .before .before .before .before .before .before .before .args in
+    let pre = c .before .before .before .before .before .before .before .before .before .before .before .before .before .before .before .before .before .before .before .before .pre in
+    let i = c .before .before .before .before .before .before .before .before .before .before .before .before .slot-of in
+    let s = c .before .before .before .before .before .before .before .before .before .before .load in
+    let k = c .before .before .before .before .before .before .before .before .state .given in
+    let g = c .before .before .before .is-open in
+    let q = c .before .before .queued in
+    drains-none (pre .0) (a .h .0) (pre .1) (i .result) (i .ensures) (s .result) (s .ensures) (k .0 .0) (search k) (g .result) (g .ensures) (q .result) (q .ensures) (policyOf (a .policy) (length (a .items .now))) (a .buf .now) (a .items .now) (lists (a .wakes .now) (a .releases .now)) (c .nothing-queued .result) (c .before .if1 .taken) (c .nothing-queued .ensures)
 
 take-requires : tie.Need-take-requires
 take-requires c κs =
@@ -110,6 +76,12 @@ store-inbox-requires c κs =
 wake-requires : tie.Need-wake-requires
 wake-requires c κs = some-wake (c .before .before .before .before .before .before .before .before .before .before .before .before .before .before .before .before .before .before .before .before .before .before .before .before .before .before .before .before .before .before .before .before .before .before .before .before .pre .0)
 
+same-length-3 : tie.Need-same-length-3
+same-length-3 c = search needs
+
+same-length-4 : tie.Need-same-length-4
+same-length-4 c = search needs
+
 same-length-5 : tie.Need-same-length-5
 same-length-5 c = search needs
 
@@ -119,14 +91,8 @@ same-length-6 c = search needs
 same-length-7 : tie.Need-same-length-7
 same-length-7 c = search needs
 
-same-length-8 : tie.Need-same-length-8
-same-length-8 c = search needs
-
-same-length-9 : tie.Need-same-length-9
-same-length-9 c = search needs
-
-returns-5 : tie.Need-returns-5
-returns-5 c =
+returns-3 : tie.Need-returns-3
+returns-3 c =
     let a = c .before .before .before .before .before .before .before .before .before .before .before .before .before .before .before .before .before .before .before .before .before .before .before .before .before .before .before .before .before .before .before .before .before .before .before .before .before .before .before .args in
     let pre = c .before .before .before .before .before .before .before .before .before .before .before .before .before .before .before .before .before .before .before .before .before .before .before .before .before .before .before .before .before .before .before .before .before .before .before .before .before .before .before .pre in
     let i = c .before .before .before .before .before .before .before .before .before .before .before .before .before .before .before .before .before .before .before .before .before .before .before .before .before .before .before .before .before .before .before .slot-of in
@@ -149,21 +115,15 @@ drain-spec =
     returns
     is-open-requires
     queued-requires
-    accepted-requires
+    nothing-queued-requires
     same-length-2
     returns-2
-    accepted-requires-2
-    same-length-3
-    returns-3
-    refused-requires-2
-    same-length-4
-    returns-4
     take-requires
     store-inbox-requires
     wake-requires
+    same-length-3
+    same-length-4
     same-length-5
     same-length-6
     same-length-7
-    same-length-8
-    same-length-9
-    returns-5)
+    returns-3)

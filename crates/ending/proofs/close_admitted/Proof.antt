@@ -5,81 +5,55 @@ use Rattle.ending.proofs.Ended.{stale, closed-never, unbound-closed, bo
 use borrow.Author.Needs.{needs}
 use Rattle.ending.proofs.close_admitted.Statement.{statement}
 use Rattle.ending.proofs.close_admitted.Tie as tie
-use Rattle.ending.proofs.closed.Reads as closed-reads
-use Rattle.ending.proofs.end.Reads as end-reads
-use Rattle.ending.proofs.end_listener.Reads as end-listener-reads
-use Rattle.ending.proofs.leave.Reads as leave-reads
-use Rattle.promise.proofs.accepted.Reads as accepted-reads
-use Rattle.promise.proofs.refused.Reads as refused-reads
-use Rattle.storage.proofs.handles.is_live.Reads as is-live-reads
-use Rattle.storage.proofs.handles.slot_of.Reads as slot-of-reads
-use Rattle.storage.proofs.load.Reads as load-reads
 
--- src/lib.rt:262:9
 is-live-requires : tie.Need-is-live-requires
 is-live-requires c κs = search needs
 
--- src/lib.rt:263:9
 refused-requires : tie.Need-refused-requires
 refused-requires c κs = search needs
 
--- src/lib.rt:263:9
 same-length : tie.Need-same-length
 same-length c = search needs
 
--- src/lib.rt:263:9
 returns : tie.Need-returns
 returns c = search stale
 
--- src/lib.rt:265:9
 slot-of-requires : tie.Need-slot-of-requires
 slot-of-requires c κs = search needs
 
--- src/lib.rt:266:9
 load-requires : tie.Need-load-requires
 load-requires c κs = search live-in
 
--- src/lib.rt:271:43
 enum-told : tie.Need-enum-told
 enum-told c = search needs
 
--- src/lib.rt:271:26
 refused-requires-2 : tie.Need-refused-requires-2
 refused-requires-2 c κs = search needs
 
--- src/lib.rt:273:19
 enum-told-2 : tie.Need-enum-told-2
 enum-told-2 c = search needs
 
--- src/lib.rt:273:13
 leave-requires : tie.Need-leave-requires
 leave-requires c κs = search live-in
 
--- src/lib.rt:274:13
 accepted-requires : tie.Need-accepted-requires
 accepted-requires c κs = search needs
 
--- src/lib.rt:277:19
 enum-told-3 : tie.Need-enum-told-3
 enum-told-3 c = search needs
 
--- src/lib.rt:277:13
 leave-requires-2 : tie.Need-leave-requires-2
 leave-requires-2 c κs = search live-in
 
--- src/lib.rt:278:13
 slice-write-wakes : tie.Need-slice-write-wakes
 slice-write-wakes c = search needs
 
--- src/lib.rt:279:13
 accepted-requires-2 : tie.Need-accepted-requires-2
 accepted-requires-2 c κs = search needs
 
--- src/lib.rt:281:26
 enum-known-state : tie.Need-enum-known-state
 enum-known-state c = search needs
 
--- src/lib.rt:281:39
 end-listener-requires : tie.Need-end-listener-requires
 end-listener-requires c κs =
     let a = c .before .before .before .before .before .before .before .before .before .before .before .before .before .before .before .before .before .args in
@@ -92,11 +66,9 @@ end-listener-requires c κs =
     let z = listener-told (a .n) (a .c) (lent (a .words .now) (a .bytes .now) (a .tokens .now)) (a .wakes .now) (a .releases .now) (a .h .0) (v .result) (v .ensures) (record { refusal = 0; flags = 0; value = 0; items = 0; wakes = 0; releases = 0 }) (known p) d (i .result) (i .ensures) (s .result) (s .ensures) (k .0 .0) (search k) in
     (p, (z .0, (z .1, z .2)))
 
--- src/lib.rt:293:26
 enum-known-state-2 : tie.Need-enum-known-state-2
 enum-known-state-2 c = search needs
 
--- src/lib.rt:298:20
 end-requires : tie.Need-end-requires
 end-requires c κs =
     let a = c .before .before .before .before .before .before .before .before .before .before .before .before .before .before .before .before .before .args in
@@ -113,67 +85,51 @@ end-requires c κs =
       ),
     )
 
--- src/lib.rt:298:13
 closed-requires : tie.Need-closed-requires
 closed-requires c κs = search needs
 
--- src/lib.rt:249:1
 same-length-2 : tie.Need-same-length-2
 same-length-2 c = search needs
 
--- src/lib.rt:249:1
 returns-2 : tie.Need-returns-2
 returns-2 c = search (closed-never, known)
 
--- src/lib.rt:249:1
 same-length-3 : tie.Need-same-length-3
 same-length-3 c = search needs
 
--- src/lib.rt:249:1
 returns-3 : tie.Need-returns-3
 returns-3 c = search (unbound-closed, known)
 
--- src/lib.rt:249:1
 same-length-4 : tie.Need-same-length-4
 same-length-4 c = search needs
 
--- src/lib.rt:249:1
 same-length-5 : tie.Need-same-length-5
 same-length-5 c = search needs
 
--- src/lib.rt:249:1
 returns-4 : tie.Need-returns-4
 returns-4 c = search (bound-closed, known)
 
--- src/lib.rt:249:1
 same-length-6 : tie.Need-same-length-6
 same-length-6 c = search needs
 
--- src/lib.rt:249:1
 same-length-7 : tie.Need-same-length-7
 same-length-7 c = search needs
 
--- src/lib.rt:249:1
 same-length-8 : tie.Need-same-length-8
 same-length-8 c = search needs
 
--- src/lib.rt:249:1
 returns-5 : tie.Need-returns-5
 returns-5 c = search needs
 
--- src/lib.rt:249:1
 same-length-9 : tie.Need-same-length-9
 same-length-9 c = search needs
 
--- src/lib.rt:249:1
 same-length-10 : tie.Need-same-length-10
 same-length-10 c = search needs
 
--- src/lib.rt:249:1
 same-length-11 : tie.Need-same-length-11
 same-length-11 c = search needs
 
--- src/lib.rt:249:1
 returns-6 : tie.Need-returns-6
 returns-6 c =
     let a = c .before .before .before .before .before .before .before .before .before .before .before .before .before .before .before .before .before .before .before .before .before .before .before .before .before .args in

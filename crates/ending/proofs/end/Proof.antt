@@ -1,65 +1,48 @@
 use borrow.Author.Needs.{needs}
 use Rattle.ending.proofs.end.Statement.{statement}
 use Rattle.ending.proofs.end.Tie as tie
-use Rattle.ending.proofs.leave.Reads as leave-reads
-use Rattle.storage.proofs.handles.is_open.Reads as is-open-reads
-use Rattle.storage.proofs.inboxes.discard.Reads as discard-reads
 use Rattle.ending.proofs.Ended.{ends-woken, ends-silent}
 use native.Mathlib.Omega.{arith}
 
--- src/lib.rt:159:9
 is-open-requires : tie.Need-is-open-requires
 is-open-requires c κs = search needs
 
--- src/lib.rt:161:9
 discard-requires : tie.Need-discard-requires
 discard-requires c κs = search needs
 
--- src/lib.rt:162:20
 add-released : tie.Need-add-released
 add-released c = search needs
 
--- src/lib.rt:163:5
 leave-requires : tie.Need-leave-requires
 leave-requires c κs = search needs
 
--- src/lib.rt:166:9
 mul-wakes : tie.Need-mul-wakes
 mul-wakes c = let p = c .before .before .before .before .before .before .before .before .before .before .before .before .before .before .before .before .before .before .pre in let g = c .before .before .before .before .before .before .before .before .before .before .before .before .before .before .before .before .before .before .good in omega (arith, p .1 .1 .0, g .1 .1 .0)
 
--- src/lib.rt:166:9
 slice-write-wakes : tie.Need-slice-write-wakes
 slice-write-wakes c = let p = c .before .before .before .before .before .before .before .before .before .before .before .before .before .before .before .before .before .before .pre in omega (arith, p .1 .1 .0)
 
--- src/lib.rt:168:20
 add-t24 : tie.Need-add-t24
 add-t24 c = let p = c .before .before .before .before .before .before .before .before .before .before .before .before .before .before .before .before .before .before .pre in let g = c .before .before .before .before .before .before .before .before .before .before .before .before .before .before .before .before .before .before .good in omega (arith, p .1 .1 .0, g .1 .1 .0)
 
--- src/lib.rt:167:9
 same-length : tie.Need-same-length
 same-length c = search needs
 
--- src/lib.rt:167:9
 same-length-2 : tie.Need-same-length-2
 same-length-2 c = search needs
 
--- src/lib.rt:167:9
 same-length-3 : tie.Need-same-length-3
 same-length-3 c = search needs
 
--- src/lib.rt:167:9
 returns : tie.Need-returns
 returns c = search ends-woken
 
--- src/lib.rt:142:1
 same-length-4 : tie.Need-same-length-4
 same-length-4 c = search needs
 
--- src/lib.rt:142:1
 same-length-5 : tie.Need-same-length-5
 same-length-5 c = search needs
 
--- src/lib.rt:142:1
 returns-2 : tie.Need-returns-2
 returns-2 c = search ends-silent
 

@@ -5,12 +5,6 @@ use Rattle.promise.proofs.Asked.{own-in}
 use Rattle.ending.proofs.Ended.{Going, begun, left-first, going-first, going-on, going-words, going-done, serves-next, words-next, room-next, heads, entry-room}
 use Rattle.ending.proofs.end_listener.Statement.{statement}
 use Rattle.ending.proofs.end_listener.Tie as tie
-use Rattle.ending.proofs.closed.Reads as closed-reads
-use Rattle.ending.proofs.end_server.Reads as end-server-reads
-use Rattle.ending.proofs.leave.Reads as leave-reads
-use Rattle.ring.proofs.place.Reads as place-reads
-use Rattle.storage.proofs.handles.slot_of.Reads as slot-of-reads
-use Rattle.storage.proofs.queues.entry.Reads as entry-reads
 
 abbrev Inv-loop : tie.InvT-loop
 Inv-loop words₀ bytes tokens wakes₀ releases₀ n c generation listener i done₀ k₀ words wakes releases done k =
@@ -19,31 +13,24 @@ Inv-loop words₀ bytes tokens wakes₀ releases₀ n c generation listener i do
 abbrev μ-loop : tie.MeasureT-loop
 μ-loop words₀ bytes tokens wakes₀ releases₀ n c generation listener i done₀ k₀ words wakes releases done k = listener .pending - k
 
--- src/lib.rt:233:9
 slot-of-requires : tie.Need-slot-of-requires Inv-loop μ-loop
 slot-of-requires c κs = search needs
 
--- src/lib.rt:234:5
 leave-requires : tie.Need-leave-requires Inv-loop μ-loop
 leave-requires c κs = let p = c .before .before .before .before .before .before .before .pre in own-in (p .0) (c .before .before .before .before .before .before .before .args .h .0) (p .1 .0) (c .before .slot-of .result) (c .before .slot-of .ensures)
 
--- src/lib.rt:235:5
 slice-write-wakes : tie.Need-slice-write-wakes Inv-loop μ-loop
 slice-write-wakes c = let p = c .before .before .before .before .before .before .before .before .before .before .pre in let z = p .0 .wake-list in omega arith
 
--- src/lib.rt:241:5
 loop-holds : tie.Need-loop-holds Inv-loop μ-loop
 loop-holds c = (omega arith, going-first _ _ _ _ _ _ _ _ _ _)
 
--- src/lib.rt:242:64
 add-place : tie.Need-add-place Inv-loop μ-loop
 add-place c = let p = c .before .before .before .before .before .before .before .before .before .before .before .before .before .before .before .pre in let z = heads (p .0) (c .before .before .before .before .before .before .before .before .before .before .before .before .before .before .before .args .h .0) (c .before .before .before .before .before .before .before .before .before .before .before .before .before .before .before .args .listener) (p .1 .0) (p .1 .1 .0) in let l = c .before .before .before .before .loop in omega (arith, z .0, z .1, z .2, l .inv .0)
 
--- src/lib.rt:242:49
 place-requires : tie.Need-place-requires Inv-loop μ-loop
 place-requires c κs = let p = c .before .before .before .before .before .before .before .before .before .before .before .before .before .before .before .pre in let z = heads (p .0) (c .before .before .before .before .before .before .before .before .before .before .before .before .before .before .before .args .h .0) (c .before .before .before .before .before .before .before .before .before .before .before .before .before .before .before .args .listener) (p .1 .0) (p .1 .1 .0) in let l = c .before .before .before .before .loop in omega (arith, z .0, z .1, z .2, c .before .before .if1 .taken)
 
--- src/lib.rt:242:13
 entry-requires : tie.Need-entry-requires Inv-loop μ-loop
 entry-requires c κs =
     let a = c .before .before .before .before .before .before .before .before .before .before .before .before .before .before .before .before .args in
@@ -55,7 +42,6 @@ entry-requires c κs =
     let z = going-words (l .inv .1) (a .h .0) (a .words .now) (a .wakes .now) (a .releases .now) b f in
     entry-room (p .0) (a .h .0) (p .1 .0) (i .result) (i .ensures) (l .words) (z .0) (c .place .result) (c .place .ensures .1)
 
--- src/lib.rt:243:9
 end-server-requires : tie.Need-end-server-requires Inv-loop μ-loop
 end-server-requires c κs =
     let a = c .before .before .before .before .before .before .before .before .before .before .before .before .before .before .before .before .before .before .before .before .args in
@@ -73,15 +59,12 @@ end-server-requires c κs =
       ),
     )
 
--- src/lib.rt:244:9
 add-k : tie.Need-add-k Inv-loop μ-loop
 add-k c = let p = c .before .before .before .before .before .before .before .before .before .before .before .before .before .before .before .before .before .before .before .before .before .before .before .before .before .before .before .pre in let z = heads (p .0) (c .before .before .before .before .before .before .before .before .before .before .before .before .before .before .before .before .before .before .before .before .before .before .before .before .before .before .before .args .h .0) (c .before .before .before .before .before .before .before .before .before .before .before .before .before .before .before .before .before .before .before .before .before .before .before .before .before .before .before .args .listener) (p .1 .0) (p .1 .1 .0) in omega (arith, z .1, z .2, c .before .before .before .before .before .before .before .before .before .before .before .before .before .before .if1 .taken)
 
--- src/lib.rt:241:5
 loop-less : tie.Need-loop-less Inv-loop μ-loop
 loop-less c = omega (arith, c .before .before .before .before .before .before .before .before .before .before .before .before .before .before .if1 .taken)
 
--- src/lib.rt:241:5
 loop-again : tie.Need-loop-again Inv-loop μ-loop
 loop-again c =
     let l = c .before .before .before .before .before .before .before .before .before .before .before .before .before .before .before .before .loop in
@@ -90,11 +73,9 @@ loop-again c =
     let e = c .before .before .before .before .before .before .end-server in
     (omega (arith, c .before .before .before .before .before .before .before .before .before .before .before .before .before .before .if1 .taken), going-on (l .inv .1) (c .before .before .before .before .before .before .before .before .before .before .before .before .before .before .if1 .taken) (pl .result) (x .result .0) (pl .ensures .0) (x .ensures) _ _ _ (e .result) (e .ensures))
 
--- src/lib.rt:246:5
 closed-requires : tie.Need-closed-requires Inv-loop μ-loop
 closed-requires c κs = search needs
 
--- src/lib.rt:216:1
 same-length : tie.Need-same-length Inv-loop μ-loop
 same-length c =
     let a = c .before .before .before .before .before .before .before .before .before .before .before .before .before .before .args in
@@ -105,7 +86,6 @@ same-length c =
     let l = c .before .before .before .loop in
     going-words (l .inv .1) (a .h .0) (a .words .now) (a .wakes .now) (a .releases .now) b f .0
 
--- src/lib.rt:216:1
 same-length-2 : tie.Need-same-length-2 Inv-loop μ-loop
 same-length-2 c =
     let a = c .before .before .before .before .before .before .before .before .before .before .before .before .before .before .args in
@@ -116,7 +96,6 @@ same-length-2 c =
     let l = c .before .before .before .loop in
     going-words (l .inv .1) (a .h .0) (a .words .now) (a .wakes .now) (a .releases .now) b f .1
 
--- src/lib.rt:216:1
 same-length-3 : tie.Need-same-length-3 Inv-loop μ-loop
 same-length-3 c =
     let a = c .before .before .before .before .before .before .before .before .before .before .before .before .before .before .args in
@@ -127,7 +106,6 @@ same-length-3 c =
     let l = c .before .before .before .loop in
     going-words (l .inv .1) (a .h .0) (a .words .now) (a .wakes .now) (a .releases .now) b f .2
 
--- src/lib.rt:216:1
 returns : tie.Need-returns Inv-loop μ-loop
 returns c =
     let a = c .before .before .before .before .before .before .before .before .before .before .before .before .before .before .args in

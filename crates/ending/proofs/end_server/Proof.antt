@@ -1,28 +1,20 @@
 use borrow.Author.Needs.{needs}
 use Rattle.ending.proofs.end_server.Statement.{statement}
 use Rattle.ending.proofs.end_server.Tie as tie
-use Rattle.ending.proofs.end.Reads as end-reads
-use Rattle.storage.proofs.handles.slot_of.Reads as slot-of-reads
-use Rattle.storage.proofs.load.Reads as load-reads
 use Rattle.ending.proofs.Ended.{serves-always, server-fits, server-within, server-ended}
 
--- src/lib.rt:194:9
 slot-of-requires : tie.Need-slot-of-requires
 slot-of-requires c κs = search needs
 
--- src/lib.rt:195:9
 load-requires : tie.Need-load-requires
 load-requires c κs = search needs
 
--- src/lib.rt:198:26
 enum-known-state : tie.Need-enum-known-state
 enum-known-state c = search needs
 
--- src/lib.rt:199:9
 same-length : tie.Need-same-length
 same-length c = search needs
 
--- src/lib.rt:199:9
 returns : tie.Need-returns
 returns c = let i = c .before .before .before .slot-of in
     let s = c .before .load in
@@ -30,7 +22,6 @@ returns c = let i = c .before .before .before .slot-of in
     let p = c .before .before .before .before .before .before .before .before .pre in
     serves-always (a .n) (a .c) (a .words .now) (a .server .0) (i .result) (p .0) (i .ensures) (s .result) (s .ensures) (c .match .keys2)
 
--- src/lib.rt:201:5
 end-requires : tie.Need-end-requires
 end-requires c κs = let i = c .before .before .before .before .before .before .before .before .slot-of in
     let s = c .before .before .before .before .before .before .load in
@@ -41,19 +32,15 @@ end-requires c κs = let i = c .before .before .before .before .before .before .
       (server-fits (a .n) (a .c) (a .words .now) (a .server .0) (i .result) (p .0) (i .ensures) (s .result) (s .ensures) (k .0 .0) (search k), p .1 .1),
     )
 
--- src/lib.rt:179:1
 same-length-2 : tie.Need-same-length-2
 same-length-2 c = search needs
 
--- src/lib.rt:179:1
 same-length-3 : tie.Need-same-length-3
 same-length-3 c = search needs
 
--- src/lib.rt:179:1
 same-length-4 : tie.Need-same-length-4
 same-length-4 c = search needs
 
--- src/lib.rt:179:1
 returns-2 : tie.Need-returns-2
 returns-2 c = let i = c .before .before .before .before .before .before .before .before .before .before .before .before .before .before .before .slot-of in
     let s = c .before .before .before .before .before .before .before .before .before .before .before .before .before .load in

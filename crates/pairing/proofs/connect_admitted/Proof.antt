@@ -1,78 +1,57 @@
 use borrow.Author.Needs.{needs}
 use Rattle.pairing.proofs.connect_admitted.Statement.{statement}
 use Rattle.pairing.proofs.connect_admitted.Tie as tie
-use Rattle.pairing.proofs.reach.Reads as reach-reads
-use Rattle.promise.proofs.refused.Reads as refused-reads
-use Rattle.storage.proofs.handles.is_live.Reads as is-live-reads
-use Rattle.storage.proofs.handles.slot_of.Reads as slot-of-reads
-use Rattle.storage.proofs.load.Reads as load-reads
 use Rattle.pairing.proofs.Reaching.{connect-stale, connect-unnamed, connect-long, connect-closed, connect-unbound, connect-bound, connect-listening, connect-connected}
 use Rattle.storage.specs.Rows.{lent}
 use Rattle.promise.specs.Promise.{lists}
 use Rattle.promise.specs.Answers.{refusedWith}
 use Rattle.promise.proofs.Asked.{live-in}
 
--- src/lib.rt:41:9
 is-live-requires : tie.Need-is-live-requires
 is-live-requires c κs = search needs
 
--- src/lib.rt:42:9
 refused-requires : tie.Need-refused-requires
 refused-requires c κs = search needs
 
--- src/lib.rt:42:9
 same-length : tie.Need-same-length
 same-length c = search needs
 
--- src/lib.rt:42:9
 returns : tie.Need-returns
 returns c = search connect-stale
 
--- src/lib.rt:45:9
 refused-requires-2 : tie.Need-refused-requires-2
 refused-requires-2 c κs = search needs
 
--- src/lib.rt:45:9
 same-length-2 : tie.Need-same-length-2
 same-length-2 c = search needs
 
--- src/lib.rt:45:9
 returns-2 : tie.Need-returns-2
 returns-2 c = search connect-unnamed
 
--- src/lib.rt:48:9
 refused-requires-3 : tie.Need-refused-requires-3
 refused-requires-3 c κs = search needs
 
--- src/lib.rt:48:9
 same-length-3 : tie.Need-same-length-3
 same-length-3 c = search needs
 
--- src/lib.rt:48:9
 returns-3 : tie.Need-returns-3
 returns-3 c = search (connect-long, c .before .before .if2 .left)
 
--- src/lib.rt:50:9
 slot-of-requires : tie.Need-slot-of-requires
 slot-of-requires c κs = search needs
 
--- src/lib.rt:51:9
 load-requires : tie.Need-load-requires
 load-requires c κs = search live-in
 
--- src/lib.rt:55:43
 enum-told : tie.Need-enum-told
 enum-told c = search needs
 
--- src/lib.rt:55:26
 refused-requires-4 : tie.Need-refused-requires-4
 refused-requires-4 c κs = search needs
 
--- src/lib.rt:56:33
 enum-told-2 : tie.Need-enum-told-2
 enum-told-2 c = search needs
 
--- src/lib.rt:56:27
 reach-requires : tie.Need-reach-requires
 reach-requires c κs =
     let p = c .before .before .before .before .before .before .before .before .before .before .before .before .before .before .before .before .before .before .args in
@@ -86,35 +65,27 @@ reach-requires c κs =
           (c .before .before .before .before .before .before .before .if3 .left) (c .before .before .enum-told2 .given .1),
     )
 
--- src/lib.rt:57:45
 enum-told-3 : tie.Need-enum-told-3
 enum-told-3 c = search needs
 
--- src/lib.rt:57:28
 refused-requires-5 : tie.Need-refused-requires-5
 refused-requires-5 c κs = search needs
 
--- src/lib.rt:58:49
 enum-told-4 : tie.Need-enum-told-4
 enum-told-4 c = search needs
 
--- src/lib.rt:58:32
 refused-requires-6 : tie.Need-refused-requires-6
 refused-requires-6 c κs = search needs
 
--- src/lib.rt:59:49
 enum-told-5 : tie.Need-enum-told-5
 enum-told-5 c = search needs
 
--- src/lib.rt:59:32
 refused-requires-7 : tie.Need-refused-requires-7
 refused-requires-7 c κs = search needs
 
--- src/lib.rt:27:1
 same-length-4 : tie.Need-same-length-4
 same-length-4 c = search needs
 
--- src/lib.rt:27:1
 returns-4 : tie.Need-returns-4
 returns-4 c =
     let p = c .before .before .before .before .before .before .before .before .before .before .before .before .before .before .before .before .before .args in
@@ -126,23 +97,18 @@ returns-4 c =
     connect-closed (p .n) (p .c) s ls (p .h .0) (p .name .now) (c .refused4 .result) (v .result) (v .ensures) (c .before .before .before .before .before .before .before .before .if1 .left) (i .result) (w .result) (i .ensures) (w .ensures) (c .before .before .before .before .before .before .before .if2 .left)
     (c .before .before .before .before .before .before .if3 .left) (c .before .enum-told .given .1)
 
--- src/lib.rt:27:1
 same-length-5 : tie.Need-same-length-5
 same-length-5 c = search needs
 
--- src/lib.rt:27:1
 same-length-6 : tie.Need-same-length-6
 same-length-6 c = search needs
 
--- src/lib.rt:27:1
 returns-5 : tie.Need-returns-5
 returns-5 c = search needs
 
--- src/lib.rt:27:1
 same-length-7 : tie.Need-same-length-7
 same-length-7 c = search needs
 
--- src/lib.rt:27:1
 returns-6 : tie.Need-returns-6
 returns-6 c =
     let p = c .before .before .before .before .before .before .before .before .before .before .before .before .before .before .before .before .before .args in
@@ -154,11 +120,9 @@ returns-6 c =
     connect-bound (p .n) (p .c) s ls (p .h .0) (p .name .now) (c .refused5 .result) (v .result) (v .ensures) (c .before .before .before .before .before .before .before .before .if1 .left) (i .result) (w .result) (i .ensures) (w .ensures) (c .before .before .before .before .before .before .before .if2 .left)
     (c .before .before .before .before .before .before .if3 .left) _ (c .before .enum-told3 .given .1) (c .refused5 .ensures)
 
--- src/lib.rt:27:1
 same-length-8 : tie.Need-same-length-8
 same-length-8 c = search needs
 
--- src/lib.rt:27:1
 returns-7 : tie.Need-returns-7
 returns-7 c =
     let p = c .before .before .before .before .before .before .before .before .before .before .before .before .before .before .before .before .before .args in
@@ -170,11 +134,9 @@ returns-7 c =
     connect-listening (p .n) (p .c) s ls (p .h .0) (p .name .now) (c .refused6 .result) (v .result) (v .ensures) (c .before .before .before .before .before .before .before .before .if1 .left) (i .result) (w .result) (i .ensures) (w .ensures) (c .before .before .before .before .before .before .before .if2 .left)
     (c .before .before .before .before .before .before .if3 .left) _ (c .before .enum-told4 .given .1) (c .refused6 .ensures)
 
--- src/lib.rt:27:1
 same-length-9 : tie.Need-same-length-9
 same-length-9 c = search needs
 
--- src/lib.rt:27:1
 returns-8 : tie.Need-returns-8
 returns-8 c =
     let p = c .before .before .before .before .before .before .before .before .before .before .before .before .before .before .before .before .before .args in

@@ -1,14 +1,11 @@
 use borrow.Author.Needs.{needs}
 use Rattle.pairing.proofs.new_end.Statement.{statement}
 use Rattle.pairing.proofs.new_end.Tie as tie
-use Rattle.inbox.proofs.Inbox.new.Reads as new-reads
 use Rattle.pairing.proofs.Storing.{end-is}
 
--- src/lib.rt:132:16
 new-requires : tie.Need-new-requires
 new-requires c κs = search needs
 
--- src/lib.rt:127:1
 returns : tie.Need-returns
 returns c = search end-is
 

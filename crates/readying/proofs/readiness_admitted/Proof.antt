@@ -1,105 +1,76 @@
 use borrow.Author.Needs.{needs}
 use Rattle.readying.proofs.readiness_admitted.Statement.{statement}
 use Rattle.readying.proofs.readiness_admitted.Tie as tie
-use Rattle.readying.proofs.ready.Reads as ready-reads
-use Rattle.promise.proofs.accepted.Reads as accepted-reads
-use Rattle.promise.proofs.refused.Reads as refused-reads
-use Rattle.storage.proofs.handles.is_live.Reads as is-live-reads
-use Rattle.storage.proofs.handles.slot_of.Reads as slot-of-reads
-use Rattle.storage.proofs.load.Reads as load-reads
 use Rattle.readying.proofs.Readying.{stale, closed-never, of-unbound, of-bound, of-empty, of-waiting, of-connected}
 use Rattle.promise.proofs.Known.{known}
 use Rattle.promise.proofs.Asked.{live-in}
 
--- src/lib.rt:82:9
 is-live-requires : tie.Need-is-live-requires
 is-live-requires c κs = search needs
 
--- src/lib.rt:83:9
 refused-requires : tie.Need-refused-requires
 refused-requires c κs = search needs
 
--- src/lib.rt:83:9
 returns : tie.Need-returns
 returns c = search stale
 
--- src/lib.rt:85:37
 slot-of-requires : tie.Need-slot-of-requires
 slot-of-requires c κs = search needs
 
--- src/lib.rt:85:9
 load-requires : tie.Need-load-requires
 load-requires c κs = search live-in
 
--- src/lib.rt:89:43
 enum-told : tie.Need-enum-told
 enum-told c = search needs
 
--- src/lib.rt:89:26
 refused-requires-2 : tie.Need-refused-requires-2
 refused-requires-2 c κs = search needs
 
--- src/lib.rt:90:27
 enum-told-2 : tie.Need-enum-told-2
 enum-told-2 c = search needs
 
--- src/lib.rt:90:27
 accepted-requires : tie.Need-accepted-requires
 accepted-requires c κs = search needs
 
--- src/lib.rt:91:28
 enum-told-3 : tie.Need-enum-told-3
 enum-told-3 c = search needs
 
--- src/lib.rt:91:28
 accepted-requires-2 : tie.Need-accepted-requires-2
 accepted-requires-2 c κs = search needs
 
--- src/lib.rt:92:26
 enum-known-state : tie.Need-enum-known-state
 enum-known-state c = search needs
 
--- src/lib.rt:94:17
 accepted-requires-3 : tie.Need-accepted-requires-3
 accepted-requires-3 c κs = search needs
 
--- src/lib.rt:94:17
 returns-2 : tie.Need-returns-2
 returns-2 c = search (of-empty, known)
 
--- src/lib.rt:96:13
 accepted-requires-4 : tie.Need-accepted-requires-4
 accepted-requires-4 c κs = search needs
 
--- src/lib.rt:98:26
 enum-known-state-2 : tie.Need-enum-known-state-2
 enum-known-state-2 c = search needs
 
--- src/lib.rt:98:59
 ready-requires : tie.Need-ready-requires
 ready-requires c κs = search needs
 
--- src/lib.rt:98:41
 accepted-requires-5 : tie.Need-accepted-requires-5
 accepted-requires-5 c κs = search needs
 
--- src/lib.rt:69:1
 returns-3 : tie.Need-returns-3
 returns-3 c = search (closed-never, known)
 
--- src/lib.rt:69:1
 returns-4 : tie.Need-returns-4
 returns-4 c = search (of-unbound, known)
 
--- src/lib.rt:69:1
 returns-5 : tie.Need-returns-5
 returns-5 c = search (of-bound, known)
 
--- src/lib.rt:69:1
 returns-6 : tie.Need-returns-6
 returns-6 c = search (of-waiting, known)
 
--- src/lib.rt:69:1
 returns-7 : tie.Need-returns-7
 returns-7 c = search (of-connected, known)
 

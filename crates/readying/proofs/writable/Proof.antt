@@ -1,27 +1,20 @@
 use borrow.Author.Needs.{needs}
 use Rattle.readying.proofs.writable.Statement.{statement}
 use Rattle.readying.proofs.writable.Tie as tie
-use Rattle.readying.proofs.has_room.Reads as has-room-reads
-use Rattle.storage.proofs.load.Reads as load-reads
 use Rattle.readying.proofs.Readying.{shut-outbox, some-room, no-room}
 
--- src/lib.rt:51:9
 returns : tie.Need-returns
 returns c = search shut-outbox
 
--- src/lib.rt:53:9
 load-requires : tie.Need-load-requires
 load-requires c κs = search needs
 
--- src/lib.rt:55:8
 has-room-requires : tie.Need-has-room-requires
 has-room-requires c κs = search needs
 
--- src/lib.rt:46:1
 returns-2 : tie.Need-returns-2
 returns-2 c = search some-room
 
--- src/lib.rt:46:1
 returns-3 : tie.Need-returns-3
 returns-3 c = search no-room
 

@@ -3,7 +3,7 @@ use Rattle.shutting.proofs.shut.Statement.{statement}
 use Rattle.shutting.proofs.shut.Tie as tie
 use Rattle.promise.specs.Promise.{lists}
 use Rattle.promise.proofs.Asked.{some-wake, own-in}
-use Rattle.shutting.proofs.Shutting.{shuts-apart, pair-asked, end-asked, shuts-alone}
+use Rattle.shutting.proofs.Shutting.{two-wakes, shuts-apart, end-asked, shuts-alone, peer-still, shuts-both}
 
 slot-of-requires : tie.Need-slot-of-requires
 slot-of-requires c κs = search needs
@@ -35,15 +35,20 @@ returns c =
 is-open-requires : tie.Need-is-open-requires
 is-open-requires c κs = search needs
 
-shut-pair-requires : tie.Need-shut-pair-requires
-shut-pair-requires c κs =
-    let a = c .before .before .before .before .before .before .before .before .before .before .before .before .before .before .before .before .before .args in
-    let pre = c .before .before .before .before .before .before .before .before .before .before .before .before .before .before .before .before .before .pre in
-    let i = c .before .before .before .before .before .before .before .before .before .before .before .slot-of in
-    let s = c .before .before .before .before .before .before .before .before .before .load in
-    let k = c .before .before .before .before .before .before .before .state .given in
-    let f = c .before .before .before .before .is-open in
-    pair-asked (pre .0) (a .h .0) (pre .1) (i .result) (i .ensures) (s .result) (s .ensures) (k .0 .0) (search k) (f .result) (f .ensures) (c .before .before .before .if1 .taken)
+end-own-requires : tie.Need-end-own-requires
+end-own-requires c κs =
+    let a = c .before .before .before .before .before .before .before .before .before .before .before .before .before .before .before .args in
+    let pre = c .before .before .before .before .before .before .before .before .before .before .before .before .before .before .before .pre in
+    let i = c .before .before .before .before .before .before .before .before .before .slot-of in
+    let s = c .before .before .before .before .before .before .before .load in
+    let k = c .before .before .before .before .before .state .given in
+    end-asked (pre .0) (a .h .0) (pre .1) (i .result) (i .ensures) (s .result) (s .ensures) (k .0 .0) (search k)
+
+slice-write-wakes : tie.Need-slice-write-wakes
+slice-write-wakes c = some-wake (c .before .before .before .before .before .before .before .before .before .before .before .before .before .before .before .before .before .before .before .before .pre .0)
+
+shut-down-requires : tie.Need-shut-down-requires
+shut-down-requires c κs = search needs
 
 same-length-2 : tie.Need-same-length-2
 same-length-2 c = search needs
@@ -55,22 +60,32 @@ same-length-4 : tie.Need-same-length-4
 same-length-4 c = search needs
 
 returns-2 : tie.Need-returns-2
-returns-2 c = search needs
+returns-2 c =
+    let a = c .before .before .before .before .before .before .before .before .before .before .before .before .before .before .before .before .before .before .before .before .before .before .args in
+    let pre = c .before .before .before .before .before .before .before .before .before .before .before .before .before .before .before .before .before .before .before .before .before .before .pre in
+    let i = c .before .before .before .before .before .before .before .before .before .before .before .before .before .before .before .before .slot-of in
+    let s = c .before .before .before .before .before .before .before .before .before .before .before .before .before .before .load in
+    let k = c .before .before .before .before .before .before .before .before .before .before .before .before .state .given in
+    let f = c .before .before .before .before .before .before .before .before .before .is-open in
+    let e = c .before .before .before .before .before .before .end-own in
+    shuts-alone (pre .0) (a .h .0) (pre .1) (i .result) (i .ensures) (s .result) (s .ensures) (k .0 .0) (search k) (f .result) (f .ensures) (a .read) (a .write) _ _ _ (e .result) (e .ensures) (a .wakes .now) (c .shut-down .result) (c .before .if1 .taken) (c .shut-down .ensures)
 
-end-own-requires : tie.Need-end-own-requires
-end-own-requires c κs =
-    let a = c .before .before .before .before .before .before .before .before .before .before .before .before .before .before .before .before .args in
-    let pre = c .before .before .before .before .before .before .before .before .before .before .before .before .before .before .before .before .pre in
-    let i = c .before .before .before .before .before .before .before .before .before .before .slot-of in
-    let s = c .before .before .before .before .before .before .before .before .load in
-    let k = c .before .before .before .before .before .before .state .given in
-    end-asked (pre .0) (a .h .0) (pre .1) (i .result) (i .ensures) (s .result) (s .ensures) (k .0 .0) (search k)
+end-peer-requires : tie.Need-end-peer-requires
+end-peer-requires c κs =
+    let a = c .before .before .before .before .before .before .before .before .before .before .before .before .before .before .before .before .before .before .before .before .before .before .args in
+    let pre = c .before .before .before .before .before .before .before .before .before .before .before .before .before .before .before .before .before .before .before .before .before .before .pre in
+    let i = c .before .before .before .before .before .before .before .before .before .before .before .before .before .before .before .before .slot-of in
+    let s = c .before .before .before .before .before .before .before .before .before .before .before .before .before .before .load in
+    let k = c .before .before .before .before .before .before .before .before .before .before .before .before .state .given in
+    let f = c .before .before .before .before .before .before .before .before .before .is-open in
+    let e = c .before .before .before .before .before .before .end-own in
+    peer-still (pre .0) (a .h .0) (pre .1) (i .result) (i .ensures) (s .result) (s .ensures) (k .0 .0) (search k) (f .result) (f .ensures) (a .read) (a .write) _ _ _ (e .result) (e .ensures) (c .before .if1 .left)
 
-slice-write-wakes : tie.Need-slice-write-wakes
-slice-write-wakes c = some-wake (c .before .before .before .before .before .before .before .before .before .before .before .before .before .before .before .before .before .before .before .before .before .pre .0)
+slice-write-wakes-2 : tie.Need-slice-write-wakes-2
+slice-write-wakes-2 c = let p = two-wakes (c .before .before .before .before .before .before .before .before .before .before .before .before .before .before .before .before .before .before .before .before .before .before .before .before .before .pre .0) in search (p, needs)
 
-shut-down-requires : tie.Need-shut-down-requires
-shut-down-requires c κs = search needs
+shut-down-requires-2 : tie.Need-shut-down-requires-2
+shut-down-requires-2 c κs = search needs
 
 same-length-5 : tie.Need-same-length-5
 same-length-5 c = search needs
@@ -83,13 +98,15 @@ same-length-7 c = search needs
 
 returns-3 : tie.Need-returns-3
 returns-3 c =
-    let a = c .before .before .before .before .before .before .before .before .before .before .before .before .before .before .before .before .before .before .before .before .before .before .args in
-    let pre = c .before .before .before .before .before .before .before .before .before .before .before .before .before .before .before .before .before .before .before .before .before .before .pre in
-    let i = c .before .before .before .before .before .before .before .before .before .before .before .before .before .before .before .before .slot-of in
-    let s = c .before .before .before .before .before .before .before .before .before .before .before .before .before .before .load in
-    let k = c .before .before .before .before .before .before .before .before .before .before .before .before .state .given in
-    let f = c .before .before .before .before .before .before .before .before .before .is-open in
-    shuts-alone (pre .0) (a .h .0) (pre .1) (i .result) (i .ensures) (s .result) (s .ensures) (k .0 .0) (search k) (f .result) (f .ensures) (c .before .before .before .before .before .before .before .before .if1 .left) (a .read) (a .write) _ _ _ _ (c .before .before .before .before .before .end-own .result) (c .shut-down .result) (c .before .before .before .before .before .end-own .ensures) (c .shut-down .ensures)
+    let a = c .before .before .before .before .before .before .before .before .before .before .before .before .before .before .before .before .before .before .before .before .before .before .before .before .before .before .args in
+    let pre = c .before .before .before .before .before .before .before .before .before .before .before .before .before .before .before .before .before .before .before .before .before .before .before .before .before .before .pre in
+    let i = c .before .before .before .before .before .before .before .before .before .before .before .before .before .before .before .before .before .before .before .before .slot-of in
+    let s = c .before .before .before .before .before .before .before .before .before .before .before .before .before .before .before .before .before .before .load in
+    let k = c .before .before .before .before .before .before .before .before .before .before .before .before .before .before .before .before .state .given in
+    let f = c .before .before .before .before .before .before .before .before .before .before .before .before .before .is-open in
+    let e = c .before .before .before .before .before .before .before .before .before .before .end-own in
+    let p = c .before .before .before .end-peer in
+    shuts-both (pre .0) (a .h .0) (pre .1) (i .result) (i .ensures) (s .result) (s .ensures) (k .0 .0) (search k) (f .result) (f .ensures) (a .read) (a .write) _ _ _ (e .result) (e .ensures) (c .before .before .before .before .before .if1 .left) _ (a .wakes .now) (c .shut-down2 .result) (p .ensures) (c .shut-down2 .ensures)
 
 pub shut-spec : {M : Type 1} → statement M
 shut-spec =
@@ -102,14 +119,16 @@ shut-spec =
     same-length
     returns
     is-open-requires
-    shut-pair-requires
+    end-own-requires
+    slice-write-wakes
+    shut-down-requires
     same-length-2
     same-length-3
     same-length-4
     returns-2
-    end-own-requires
-    slice-write-wakes
-    shut-down-requires
+    end-peer-requires
+    slice-write-wakes-2
+    shut-down-requires-2
     same-length-5
     same-length-6
     same-length-7
