@@ -1,6 +1,7 @@
 # make run      an appliance in small: diallers over the proved table, in seconds once the library is proved
-# make test     the gate: from nothing, every crate proved, every must-fail edit refused, every program run
-# make native   the library linked and called from C and Rust, and the Rust original beside it
+# make test     the gate: the library from C and Rust (make native), then from nothing every crate proved, every must-fail
+#               edit refused, every program run
+# make native   the library proved, linked and called from C and Rust, and the Rust original beside it
 # make archive  target/native/libeidrovang.a, to be linked with include/eidrovang.h
 # make c-test   the library called from C
 # make oracle   the whole comparison with the Rust original, in minutes
@@ -11,6 +12,8 @@
 # is to be had.
 
 SEED ?= 1
+# How many crates or must-fail edits rt takes at a time: more than there are cores, so that no core waits for the longest of a batch.
+export RT_JOBS ?= 4
 ARCHIVE = target/native/libeidrovang.a
 
 .PHONY: run tour test native archive c-test oracle bench fmt kit
@@ -28,6 +31,7 @@ tour: kit
 # What runs before rt ci fails the run by its exit status; the last line is rt's own.
 test: kit
 	@rt fmt --check
+	@$(MAKE) --no-print-directory native
 	@rt ci
 
 native: archive c-test

@@ -22,6 +22,6 @@ fn main() {
     println!("cargo::rustc-link-search=native={}", folder.display());
     println!("cargo::rustc-link-lib=static=eidrovang");
     println!("cargo::rustc-env=EIDROVANG_ARCHIVE={}", archive.display());
-    println!("cargo::rustc-env=EIDROVANG_ANSWERS={}", repository().join("oracle/answers.txt").display());
+    println!("cargo::rustc-env=EIDROVANG_ANSWERS={}", repository().join("crates/replay/stdin").display());
     write("");
 }

@@ -1,10 +1,11 @@
-// What `make bench` times and `inbox_lines` runs of the inbox: its calls in a form that needs nothing of
-// its caller. The five numbers of an inbox stand in a lent list. Sizes that do not fit are refused
-// with 18, an inbox that is not well with 19.
+// What `make bench` times by itself, in a form that needs nothing of its caller: an inbox's push and
+// take, and the check of a table. The five numbers of an inbox stand in a lent list. Sizes that do not
+// fit are refused with 18, an inbox that is not well with 19.
 ghost use mathlib.Core.Path.{_≡_};
 ghost use Prim.Native.Nat.{_≤_};
 ghost use lib.ListN.{length};
 ghost use lib.Seq.{sets};
+ghost use Rattle.bench_exports.specs.Checking.{checkNo};
 ghost use Rattle.bench_exports.specs.Numbers.{numbersIn, listed};
 use inbox::AttachedItems;
 use inbox::Inbox;
@@ -104,39 +105,25 @@ pub extern "C" fn bench_take(
     }
 }
 
+// The check of a whole table that every call makes, by itself: 0, or the number that a call answers.
 #[no_mangle]
-pub extern "C" fn bench_discard(
-    numbers: &mut [u64],
-    ring: &[u8],
-    places: &[u64],
-    tokens: &[u32],
-    releases: &mut [u32],
-) -> BenchAnswer {
-    if numbers.len() < 5 || 65536 < ring.len() {
-        return refused(Errno::SHORT);
+pub extern "C" fn bench_check(words: &[u64], bytes: &[u8], n: usize, c: usize) -> u32
+    ensures { λ r. ⌜ r ≡ checkNo n c (now (words .entry)) (now (bytes .entry)) ⌝ }
+{
+    if !table::sizes::in_range(n, c) {
+        return Errno::EINVAL.number();
     }
-    if places.len() != 256 {
-        return refused(Errno::SHORT);
+    let least = storage::least_sizes(n, c);
+    if words.len() < least.words {
+        return Errno::SHORT.number();
     }
-    if tokens.len() != 256 {
-        return refused(Errno::SHORT);
+    if bytes.len() < least.bytes {
+        return Errno::SHORT.number();
     }
-    if releases.len() < 256 {
-        return refused(Errno::SHORT);
+    if !table::well_formed(words, bytes, n, c) {
+        return Errno::DAMAGED.number();
     }
-    let inbox = load(numbers);
-    if !inbox.is_well(places, ring.len()) {
-        return refused(Errno::DAMAGED);
-    }
-    let discarded = inbox.discard(ring.len(), tokens, releases, 0);
-    store(numbers, discarded.inbox);
-    BenchAnswer {
-        refusal: 0,
-        flags: 0,
-        moved: 0,
-        items: 0,
-        released: discarded.released as u64,
-    }
+    0
 }
 
 fn policy(hand_over: bool) -> AttachedItems {

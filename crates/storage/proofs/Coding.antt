@@ -8,7 +8,7 @@ use native.Mathlib.Omega.{arith}
 use lib.Dec.{eqb}
 use mir.Val.{boolByte}
 use borrow.Author.Tests.{ne-eqb}
-use Rattle.storage.specs.Cells.{cellAt, storeAt, stateOf, connectionOf, cellOf, plainCell, listeningCell, connectedCell, flag}
+use Rattle.storage.specs.Cells.{cellAt, storeAt, stateOf, listenerOf, connectionOf, cellOf, plainCell, listeningCell, connectedCell, flag}
 use Rattle.storage.specs.declared.Cell.{Cell}
 use Rattle.storage.specs.declared.Slot.{Slot}
 use Rattle.storage.specs.declared.Listener.{Listener}
@@ -27,9 +27,12 @@ module _ (k : Cell) where
   unfolding stateOf
   says-bound e = rw e
 
-  pub says-listening : k .tag ≡ 3 → Listening (record { name = k .name; backlog = k .backlog; head = k .head; pending = k .pending }) ≡ stateOf k
+  pub says-listening : k .tag ≡ 3 → Listening (listenerOf k) ≡ stateOf k
   unfolding stateOf
   says-listening e = rw e
+
+  pub says-listener : (l : Listener) → k .tag ≡ 3 → l ≡ listenerOf k → Listening l ≡ stateOf k
+  says-listener l e z = ap Listening z ∙ says-listening e
 
   pub says-connected : (r : Connection) → k .tag ≡ 4 → r ≡ connectionOf k → Connected r ≡ stateOf k
   unfolding stateOf

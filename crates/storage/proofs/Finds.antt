@@ -8,18 +8,19 @@ use native.Mathlib.Nat.{not-suc-le-zero}
 use native.Mathlib.Decide.{decLt, ℕ-discrete as decEq}
 use native.Mathlib.Omega.{arith}
 use lib.Dec.{eqb, ltb}
-use lib.ListN.{length, take, drop}
+use lib.ListN.{length, take, drop, getD}
 use lib.Seq.{take-take, take-all}
 use borrow.Author.Tests.{lt-ltb, le-ltb, ltb-true, eq-eqb, ne-eqb, eqb-true, not-true, not-false}
 use Rattle.laws.proofs.Tests.{less-or, and-left, and-right, and-three}
+use Rattle.le.specs.Le.{le}
 use Rattle.rules.specs.Table.{slotOf, handle, same}
 use Rattle.rules.proofs.Wf.{same-refl}
-use Rattle.storage.specs.Layout.{part}
-use Rattle.storage.specs.Cells.{cellAt, stateOf}
+use Rattle.storage.specs.Layout.{part, cellBase}
+use Rattle.storage.specs.Cells.{cellAt, stateOf, connectionOf}
 use Rattle.storage.specs.Finding.{least, occupied, waiting, openIn, liveIn, freeCell, named, nameLength, holdsCell}
 use Rattle.storage.specs.declared.Cell.{Cell}
 use Rattle.storage.specs.declared.State.{State}
-use Rattle.storage.specs.declared.State.the-variants.{Connected}
+use Rattle.storage.specs.declared.State.the-variants.{Closed, Unbound, Connected}
 use Rattle.storage.specs.declared.Connection.{Connection}
 use Rattle.storage.specs.declared.Slot.{Slot}
 use Rattle.storage.proofs.Pasted.{length-part}
@@ -130,9 +131,36 @@ same-is a b r f = go r (same a b) refl refl
     go false true e d = absurd (false≢true (sym e ∙ f .1 (same-true a b d)))
     go false false e d = e ∙ sym d
 
-pub not-holder : (k : Cell) (room m : List ℕ) (σ : State) (r : Bool) → σ ≡ stateOf k → r ≡ named σ → not r ≡ true → false ≡ holdsCell k room m
-unfolding holdsCell
-not-holder k room m σ r es er t = rw (sym (ap named es) ∙ sym er ∙ not-true r t)
+pub apart : (a b : List ℕ) → (a ≡ b → ⊥) → false ≡ same a b
+apart a b ne = go (same a b) refl
+  where
+    go : (x : Bool) → same a b ≡ x → false ≡ same a b
+    go true e = absurd (ne (same-true a b e))
+    go false e = sym e
+
+pub other-length : (a b : List ℕ) → (length a ≡ length b → ⊥) → false ≡ same a b
+other-length a b ne = apart a b (λ e. ne (ap length e))
+
+pub other-bytes : (a b : List ℕ) (p x y : ℕ) → x ≡ le 8 a p → y ≡ le 8 b p → (x ≡ y → ⊥) → false ≡ same a b
+other-bytes a b p x y ex ey ne = apart a b (λ e. ne (ex ∙ ap (λ (l : List ℕ). le 8 l p) e ∙ sym ey))
+
+-- no name, of the five tags
+not-named : (k : Cell) → (k .tag ≡ 2 → ⊥) → (k .tag ≡ 3 → ⊥) → named (stateOf k) ≡ false
+unfolding stateOf
+not-named k n2 n3 = rw (ne-eqb (k .tag) 2 n2, ne-eqb (k .tag) 3 n3) (go (eqb (k .tag) 1) (eqb (k .tag) 4))
+  where
+    go : (x y : Bool) → named (cond x Unbound (cond y (Connected (connectionOf k)) Closed)) ≡ false
+    go true y = refl
+    go false true = refl
+    go false false = refl
+
+pub low-tag : (w : List ℕ) (i : ℕ) (room m : List ℕ) → getD w (cellBase i + 1) 0 < 2 → false ≡ holdsCell (cellAt w i) room m
+unfolding holdsCell cellAt
+low-tag w i room m h = rw (not-named (cellAt w i) (λ e. omega arith) (λ e. omega arith))
+
+pub high-tag : (w : List ℕ) (i : ℕ) (room m : List ℕ) → 3 < getD w (cellBase i + 1) 0 → false ≡ holdsCell (cellAt w i) room m
+unfolding holdsCell cellAt
+high-tag w i room m h = rw (not-named (cellAt w i) (λ e. omega arith) (λ e. omega arith))
 
 pub room-take : (a z : ℕ) (l : List ℕ) → a + 255 ≤ length l → take z (part a 255 l) ≡ part a (min z 255) l
 room-take a z l h = go (less-or z 255)
@@ -141,13 +169,20 @@ room-take a z l h = go (less-or z 255)
     go (inl x) = let e : min z 255 ≡ z = omega arith in take-take z 255 (drop a l) (omega arith) ∙ ap (λ (k : ℕ). part a k l) (sym e)
     go (inr x) = let e : min z 255 ≡ 255 = omega arith in take-all z (part a 255 l) (omega (arith, length-part a 255 l h)) ∙ ap (λ (k : ℕ). part a k l) (sym e)
 
-pub holds-by-name : (k : Cell) (b m : List ℕ) (σ : State) (r o : Bool) (z x a : ℕ) → a + 255 ≤ length b → σ ≡ stateOf k → r ≡ named σ → not r ≡ false → z ≡ nameLength σ → x ≡ min z 255
-    → (o ≡ true → part a (a + x - a) b ≡ m) × (part a (a + x - a) b ≡ m → o ≡ true) → o ≡ holdsCell k (part a 255 b) m
-unfolding holdsCell
-holds-by-name k b m σ r o z x a hb es er t ez ex f =
-    let e : a + x - a ≡ min z 255 = omega arith in
-    let p : part a (a + x - a) b ≡ take (nameLength (stateOf k)) (part a 255 b) = ap (λ (y : ℕ). part a y b) e ∙ sym (room-take a z b hb) ∙ ap (λ (y : ℕ). take y (part a 255 b)) (ez ∙ ap nameLength es) in
-    same-is (part a (a + x - a) b) m o f ∙ ap (λ (y : List ℕ). same y m) p ∙ rw (sym (ap named es) ∙ sym er ∙ not-false r t)
+by-name : (k : Cell) (room m : List ℕ) (o : Bool) → 2 ≤ k .tag → k .tag ≤ 3 → o ≡ same (take (k .name) room) m → o ≡ holdsCell k room m
+unfolding holdsCell stateOf
+by-name k room m o l h e = go (decEq (k .tag) 2)
+  where
+    go : Dec (k .tag ≡ 2) → o ≡ holdsCell k room m
+    go (yes z) = rw z e
+    go (no z) = let x : k .tag ≡ 3 = omega arith in rw x e
+
+pub holds-by-name : (w : List ℕ) (i : ℕ) (b m : List ℕ) (o : Bool) (x a : ℕ) → a + 255 ≤ length b → 2 ≤ getD w (cellBase i + 1) 0 → getD w (cellBase i + 1) 0 ≤ 3
+    → x ≡ min (getD w (cellBase i + 2) 0) 255 → o ≡ same (part a (a + x - a) b) m → o ≡ holdsCell (cellAt w i) (part a 255 b) m
+unfolding cellAt
+holds-by-name w i b m o x a hb l h ex eo =
+    let e : a + x - a ≡ min (getD w (cellBase i + 2) 0) 255 = omega arith in
+    by-name (cellAt w i) (part a 255 b) m o l h (eo ∙ ap (λ (y : List ℕ). same y m) (ap (λ (y : ℕ). part a y b) e ∙ sym (room-take a (getD w (cellBase i + 2) 0) b hb)))
 
 pub waiting-is : (σ : State) (k : Connection) → σ ≡ Connected k → not (eqb (k .waits) 0) ≡ waiting σ
 waiting-is σ k e = rw e

@@ -17,7 +17,7 @@ use Rattle.rules.specs.Moving.{Policy}
 use Rattle.storage.specs.Layout.{part, placesBase, ringBase, tokensBase}
 use Rattle.storage.specs.Rows.{lent, Roomy}
 use Rattle.storage.specs.Inboxes.{PushesAt}
-use Rattle.storage.proofs.Strides.{row-before}
+use Rattle.storage.proofs.Rooms.{Rooms, rooms}
 use Rattle.storage.proofs.Pasted.{length-part, part-here}
 
 -- the length of `a..a + k` as the code has it
@@ -36,9 +36,6 @@ mid-paste l ys a k e =
 pub well-at : (c p : ℕ) (w : List ℕ) (q : Inbox) (r : Bool) → r ≡ isWell c (part p (p + 256 - p) w) q → r ≡ isWell c (part p 256 w) q
 well-at c p w q r e = e ∙ ap (λ (k : ℕ). isWell c (part p k w) q) (span p 256)
 
-pub well-lent : (bytes words : List ℕ) (a c p : ℕ) (q : Inbox) → a + c ≤ length bytes → Well c (part p 256 words) q → Well (length (part a (a + c - a) bytes)) (part p (p + 256 - p) words) q
-well-lent bytes words a c p q h w = rw (span a c, span p 256, length-part a c bytes h) w
-
 pub length-lent : (l : List ℕ) (a k : ℕ) → a + k ≤ length l → length (part a (a + k - a) l) ≡ k
 length-lent l a k h = ap (λ (x : ℕ). length (part a x l)) (span a k) ∙ length-part a k l h
 
@@ -50,8 +47,30 @@ pub takes-at : (bytes words tokens buf buf′ : List ℕ) (policy : Policy) (ite
     → Takes (part a c bytes) (part p 256 words) (part t 256 tokens) buf buf′ policy items items′ releases releases′ q r
 takes-at bytes words tokens buf buf′ policy items items′ releases releases′ a c p t q r x = rw (span a c, span p 256, span t 256) at x
 
-pub pushes-at : (n c i : ℕ) (w b t buf items ps rs ts : List ℕ) (q : Inbox) (r : Pushed)
-    → placesBase n i + 256 ≤ length w → ringBase c i + c ≤ length b → tokensBase i + 256 ≤ length t
+-- what an inbox's take asks of the lent parts
+pub may-take : {n c i : ℕ} {w b t : List ℕ} {q : Inbox} (releases : List ℕ) → i < n → Roomy n c (lent w b t) → 256 ≤ length releases → Well c (part (placesBase n i) 256 w) q
+    → (Well (length (part (ringBase c i) (ringBase c i + c - ringBase c i) b)) (part (placesBase n i) (placesBase n i + 256 - placesBase n i) w) q
+    × ((length (part (ringBase c i) (ringBase c i + c - ringBase c i) b) ≤ 65536) × (length (part (placesBase n i) (placesBase n i + 256 - placesBase n i) w) ≡ 256)
+    × (length (part (tokensBase i) (tokensBase i + 256 - tokensBase i) t) ≡ 256) × (256 ≤ length releases)))
+may-take {n} {c} {i} {w} {b} {t} releases h r k well =
+    let at = rooms h r in
+    let lr = length-lent b (ringBase c i) c (at .ring-to) in
+    (rw (span (placesBase n i) 256, lr) well, (rw lr (r .small), length-lent w (placesBase n i) 256 (at .places-to), length-lent t (tokensBase i) 256 (at .tokens-to), k))
+
+-- what an inbox's push asks of the lent parts
+pub may-push : {n c i : ℕ} {w b t : List ℕ} {q : Inbox} (buf items : List ℕ) → i < n → Roomy n c (lent w b t) → Well c (part (placesBase n i) 256 w) q → MayPush c q buf items
+    → (Well (length (part (ringBase c i) (ringBase c i + c - ringBase c i) b)) (part (placesBase n i) (placesBase n i + 256 - placesBase n i) w) q
+    × (((length (part (ringBase c i) (ringBase c i + c - ringBase c i) b) ≤ 65536) × (length (part (placesBase n i) (placesBase n i + 256 - placesBase n i) w) ≡ 256)
+    × (length (part (tokensBase i) (tokensBase i + 256 - tokensBase i) t) ≡ 256))
+    × MayPush (length (part (ringBase c i) (ringBase c i + c - ringBase c i) b)) q buf items))
+may-push {n} {c} {i} {w} {b} {t} {q} buf items h r well may =
+    let at = rooms h r in
+    let lr = length-lent b (ringBase c i) c (at .ring-to) in
+    let lp = length-lent w (placesBase n i) 256 (at .places-to) in
+    let lt = length-lent t (tokensBase i) 256 (at .tokens-to) in
+    (rw (span (placesBase n i) 256, lr) well, ((rw lr (r .small), lp, lt), rw lr may))
+
+pub pushes-at : {n c i : ℕ} {w b t buf items ps rs ts : List ℕ} {q : Inbox} {r : Pushed} → Rooms n c i (lent w b t)
     → length ps ≡ length (part (placesBase n i) (placesBase n i + 256 - placesBase n i) w)
     → length rs ≡ length (part (ringBase c i) (ringBase c i + c - ringBase c i) b)
     → length ts ≡ length (part (tokensBase i) (tokensBase i + 256 - tokensBase i) t)
@@ -60,7 +79,10 @@ pub pushes-at : (n c i : ℕ) (w b t buf items ps rs ts : List ℕ) (q : Inbox) 
     → PushesAt n c i (lent w b t)
     (lent (putMid (placesBase n i) (placesBase n i + 256 - placesBase n i) w ps) (putMid (ringBase c i) (ringBase c i + c - ringBase c i) b rs)
     (putMid (tokensBase i) (tokensBase i + 256 - tokensBase i) t ts)) buf items q r
-pushes-at n c i w b t buf items ps rs ts q r hw hb ht lp lr lt x =
+pushes-at {n} {c} {i} {w} {b} {t} {buf} {items} {ps} {rs} {ts} {q} {r} at lp lr lt x =
+    let hw = at .places-to in
+    let hb = at .ring-to in
+    let ht = at .tokens-to in
     let lp′ : length ps ≡ 256 = lp ∙ length-lent w (placesBase n i) 256 hw in
     let lr′ : length rs ≡ c = lr ∙ length-lent b (ringBase c i) c hb in
     let lt′ : length ts ≡ 256 = lt ∙ length-lent t (tokensBase i) 256 ht in

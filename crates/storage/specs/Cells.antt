@@ -6,6 +6,7 @@ use lib.ListN.{getD, set}
 use lib.Dec.{eqb}
 use Rattle.storage.specs.Layout.{cellBase}
 use Rattle.storage.specs.declared.Cell.{Cell}
+use Rattle.storage.specs.declared.Four.{Four}
 use Rattle.storage.specs.declared.Listener.{Listener}
 use Rattle.storage.specs.declared.Connection.{Connection}
 use Rattle.storage.specs.declared.State.{State}
@@ -46,7 +47,18 @@ puts l b k (v ∷ vs) = puts (set l (b + k) v) b (suc k) vs
 unfoldable pub storeAt : List ℕ → ℕ → Cell → List ℕ
 storeAt w i k = puts w (cellBase i) 0 (wordsOf k)
 
+-- four words
+abbrev pub fourAt : List ℕ → ℕ → Four
+fourAt l p = record { a = getD l p 0; b = getD l (p + 1) 0; c = getD l (p + 2) 0; d = getD l (p + 3) 0 }
+
+-- .. stored from b + k on
+abbrev pub putFour : List ℕ → ℕ → ℕ → Four → List ℕ
+putFour l b k f = set (set (set (set l (b + (k + 0)) (f .a)) (b + (k + 1)) (f .b)) (b + (k + 2)) (f .c)) (b + (k + 3)) (f .d)
+
 -- ── The state that a cell says ──
+
+abbrev pub listenerOf : Cell → Listener
+listenerOf k = record { name = k .name; backlog = k .backlog; head = k .head; pending = k .pending }
 
 abbrev pub connectionOf : Cell → Connection
 connectionOf k =
@@ -64,7 +76,7 @@ unfoldable pub stateOf : Cell → State
 stateOf k =
     cond (eqb (k .tag) 1) Unbound
     (cond (eqb (k .tag) 2) (Bound (k .name))
-    (cond (eqb (k .tag) 3) (Listening (record { name = k .name; backlog = k .backlog; head = k .head; pending = k .pending }))
+    (cond (eqb (k .tag) 3) (Listening (listenerOf k))
     (cond (eqb (k .tag) 4) (Connected (connectionOf k))
     Closed)))
 

@@ -8,7 +8,7 @@ ghost use mathlib.Core.Path.{_≡_};
 ghost use Prim.Native.Nat.{_+_, _*_, _≤_, _<_};
 ghost use lib.ListN.{length};
 ghost use Rattle.storage.specs.Layout.{sizesOf};
-ghost use Rattle.storage.specs.Cells.{cellAt, storeAt, stateOf, cellOf, connectionOf, plainCell, listeningCell, connectedCell};
+ghost use Rattle.storage.specs.Cells.{fourAt, putFour, cellAt, storeAt, stateOf, cellOf, listenerOf, connectionOf, plainCell, listeningCell, connectedCell};
 use inbox::Inbox;
 use words::Handle;
 
@@ -107,28 +107,62 @@ pub fn store(words: &mut [u64], i: usize, slot: Slot)
     store_cell(words, i, encode(slot));
 }
 
+// Four words of a slot.
+pub struct Four {
+    pub a: u64,
+    pub b: u64,
+    pub c: u64,
+    pub d: u64,
+}
+
+pub fn load_four(words: &[u64], at: usize) -> Four
+    requires { ⌜ at + 4 ≤ length (now words) ⌝ }
+    ensures { λ r. ⌜ r ≡ fourAt (now (words .entry)) at ⌝ }
+{
+    Four {
+        a: words[at],
+        b: words[at + 1],
+        c: words[at + 2],
+        d: words[at + 3],
+    }
+}
+
+fn store_four(words: &mut [u64], b: usize, k: usize, four: Four)
+    requires { ⌜ b + (k + 4) ≤ length (now words) ⌝ }
+    ensures { λ _. ⌜ now (words .exit) ≡ putFour (now (words .entry)) b k four ⌝ }
+{
+    words[b + (k + 0)] = four.a;
+    words[b + (k + 1)] = four.b;
+    words[b + (k + 2)] = four.c;
+    words[b + (k + 3)] = four.d;
+}
+
 pub fn load_cell(words: &[u64], i: usize) -> Cell
     requires { ⌜ 8 + 16 * i + 16 ≤ length (now words) ⌝ }
     ensures { λ r. ⌜ r ≡ cellAt (now (words .entry)) i ⌝ }
 {
     let b = 8 + 16 * i;
+    let own = load_four(words, b + 0);
+    let queue = load_four(words, b + 4);
+    let pair = load_four(words, b + 8);
+    let rest = load_four(words, b + 12);
     Cell {
-        generation: words[b + 0],
-        tag: words[b + 1],
-        name: words[b + 2],
-        backlog: words[b + 3],
-        head: words[b + 4],
-        pending: words[b + 5],
-        peer: words[b + 6],
-        inbox_closed: words[b + 7],
-        outbox_closed: words[b + 8],
-        byte: words[b + 9],
-        written_total: words[b + 10],
-        read_total: words[b + 11],
-        first: words[b + 12],
-        items: words[b + 13],
-        waits: words[b + 14],
-        place: words[b + 15],
+        generation: own.a,
+        tag: own.b,
+        name: own.c,
+        backlog: own.d,
+        head: queue.a,
+        pending: queue.b,
+        peer: queue.c,
+        inbox_closed: queue.d,
+        outbox_closed: pair.a,
+        byte: pair.b,
+        written_total: pair.c,
+        read_total: pair.d,
+        first: rest.a,
+        items: rest.b,
+        waits: rest.c,
+        place: rest.d,
     }
 }
 
@@ -137,22 +171,50 @@ fn store_cell(words: &mut [u64], i: usize, cell: Cell)
     ensures { λ _. ⌜ now (words .exit) ≡ storeAt (now (words .entry)) i cell ⌝ }
 {
     let b = 8 + 16 * i;
-    words[b + 0] = cell.generation;
-    words[b + 1] = cell.tag;
-    words[b + 2] = cell.name;
-    words[b + 3] = cell.backlog;
-    words[b + 4] = cell.head;
-    words[b + 5] = cell.pending;
-    words[b + 6] = cell.peer;
-    words[b + 7] = cell.inbox_closed;
-    words[b + 8] = cell.outbox_closed;
-    words[b + 9] = cell.byte;
-    words[b + 10] = cell.written_total;
-    words[b + 11] = cell.read_total;
-    words[b + 12] = cell.first;
-    words[b + 13] = cell.items;
-    words[b + 14] = cell.waits;
-    words[b + 15] = cell.place;
+    store_four(
+        words,
+        b,
+        0,
+        Four {
+            a: cell.generation,
+            b: cell.tag,
+            c: cell.name,
+            d: cell.backlog,
+        },
+    );
+    store_four(
+        words,
+        b,
+        4,
+        Four {
+            a: cell.head,
+            b: cell.pending,
+            c: cell.peer,
+            d: cell.inbox_closed,
+        },
+    );
+    store_four(
+        words,
+        b,
+        8,
+        Four {
+            a: cell.outbox_closed,
+            b: cell.byte,
+            c: cell.written_total,
+            d: cell.read_total,
+        },
+    );
+    store_four(
+        words,
+        b,
+        12,
+        Four {
+            a: cell.first,
+            b: cell.items,
+            c: cell.waits,
+            d: cell.place,
+        },
+    );
 }
 
 // What a cell says; a tag that no state has is read as closed.
@@ -166,12 +228,7 @@ pub fn decode(cell: Cell) -> State
         return State::Bound(cell.name as usize);
     }
     if cell.tag == 3 {
-        return State::Listening(Listener {
-            name: cell.name as usize,
-            backlog: cell.backlog,
-            head: cell.head as usize,
-            pending: cell.pending as usize,
-        });
+        return State::Listening(listener_of(cell));
     }
     if cell.tag == 4 {
         return State::Connected(connection_of(cell));
@@ -179,7 +236,18 @@ pub fn decode(cell: Cell) -> State
     State::Closed
 }
 
-fn connection_of(cell: Cell) -> Connection
+pub fn listener_of(cell: Cell) -> Listener
+    ensures { λ r. ⌜ r ≡ listenerOf cell ⌝ }
+{
+    Listener {
+        name: cell.name as usize,
+        backlog: cell.backlog,
+        head: cell.head as usize,
+        pending: cell.pending as usize,
+    }
+}
+
+pub fn connection_of(cell: Cell) -> Connection
     ensures { λ r. ⌜ r ≡ connectionOf cell ⌝ }
 {
     Connection {

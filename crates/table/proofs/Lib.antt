@@ -10,6 +10,7 @@ pub mod EqualDown
 pub mod EqualUp
 pub mod Conjunctions
 pub mod OwnNumbers
+pub mod WordByWord
 pub mod Peers
 pub mod Servers
 pub mod Pass

@@ -111,24 +111,6 @@ module _ (k : Cell) where
   by-place a b c d e f g h i =
       rw (eq-eqb _ 0 a, eq-eqb _ 0 b, eq-eqb _ 0 c, eq-eqb _ 0 d, eq-eqb _ 0 e, eq-eqb _ 0 f, eq-eqb _ 0 g, eq-eqb _ 0 h, eq-eqb _ 0 i)
 
-  -- ── The fields of a pair ──
-
-  pub bad-in : 1 < k .«inbox_closed» → false ≡ pairFields k
-  unfolding pairFields
-  bad-in h = rw (lt-leb (k .«inbox_closed») 1 h)
-
-  pub bad-out : k .«inbox_closed» ≤ 1 → 1 < k .«outbox_closed» → false ≡ pairFields k
-  unfolding pairFields
-  bad-out a h = rw (le-leb (k .«inbox_closed») 1 a, lt-leb (k .«outbox_closed») 1 h)
-
-  pub may-wait : k .«inbox_closed» ≤ 1 → k .«outbox_closed» ≤ 1 → k .waits ≢ 0 → true ≡ pairFields k
-  unfolding pairFields
-  may-wait a b ne = rw (le-leb (k .«inbox_closed») 1 a, le-leb (k .«outbox_closed») 1 b, ne-eqb (k .waits) 0 ne)
-
-  pub no-place : k .«inbox_closed» ≤ 1 → k .«outbox_closed» ≤ 1 → k .waits ≡ 0 → eqb (k .place) 0 ≡ pairFields k
-  unfolding pairFields
-  no-place a b e = rw (le-leb (k .«inbox_closed») 1 a, le-leb (k .«outbox_closed») 1 b, eq-eqb (k .waits) 0 e)
-
   -- ── By tag ──
 
   pub fields-closed : k .tag ≡ 0 → true ≡ fieldsWell k

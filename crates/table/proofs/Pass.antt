@@ -1,9 +1,11 @@
 -- What the pass over the header and the slots leaves at each return.
-use mathlib.Core.Path.{_≡_, refl, sym, ap, _∙_}
+use mathlib.Core.Path.{_≡_, refl, sym, ap, subst, _∙_}
 use mathlib.Core.Logic.{_≢_}
 use mathlib.Core.Bool.{Bool, true, false, cond, not, _&&_}
 use mathlib.Core.List.{List, []}
 use Prim.Native.Nat.{ℕ, _+_, _-_, _≤_, _<_}
+use native.Mathlib.Decide.{decLt}
+use native.Mathlib.Omega.{arith}
 use lib.Dec.{leb, ltb, eqb}
 use lib.ListN.{getD, take, drop}
 use lib.Seq.{take-take}
@@ -19,10 +21,10 @@ use Rattle.storage.specs.declared.Cell.{Cell}
 use Rattle.storage.specs.declared.Listener.{Listener}
 use Rattle.storage.specs.declared.Connection.{Connection}
 use Rattle.storage.specs.declared.State.{State}
-use Rattle.storage.specs.declared.State.the-variants.{Closed, Unbound, Bound, Listening, Connected}
+use Rattle.storage.specs.declared.State.the-variants.{Closed, Bound, Listening, Connected}
 use Rattle.storage.proofs.Lending.{span}
 use Rattle.table.specs.Formed.{headerWell, fieldsWell, rangesWell, tiedState}
-use Rattle.table.specs.OnePass.{nameChecks, peerChecks, stateChecks, generationWell, slotChecks}
+use Rattle.table.specs.OnePass.{nameChecks, peerChecks, stateChecks, generationWell, slotChecks, ClosedRun}
 use Rattle.table.proofs.OwnNumbers.{fields-closed}
 use Rattle.table.proofs.Conjunctions.{last-of-two, first-of-three, second-of-three, last-of-three, AllBefore, all-done, one-fails}
 
@@ -108,28 +110,6 @@ module _ (n c : ℕ) (w : List ℕ) (i g me : ℕ) (k : Connection) (eg : g ≡ 
   by-standing p q r e t z s y =
       last-of-three (peerChecks n w (handle (cellAt w i .generation) i) (k .peer .0) (k .«outbox_closed»)) (isWell c (part (placesBase n i) 256 w) (k .inbox)) (tiedState n w i (Connected k)) p q r (by-handle p e) t z s y
 
--- ── By state ──
-
-module _ (n c : ℕ) (w b : List ℕ) (i : ℕ) (σ : State) where
-  pub check-closed : σ ≡ Closed → true ≡ stateChecks n c w b i σ
-  unfolding stateChecks
-  check-closed e = rw e
-
-  pub check-unbound : σ ≡ Unbound → true ≡ stateChecks n c w b i σ
-  unfolding stateChecks
-  check-unbound e = rw e
-
-  pub check-bound : (m : ℕ) (r : Bool) → σ ≡ Bound m → r ≡ nameChecks n c w b i m → r ≡ stateChecks n c w b i σ
-  unfolding stateChecks
-  check-bound m r e z = rw e z
-
-  pub check-listening : (l : Listener) (r : Bool) → σ ≡ Listening l → r ≡ stateChecks n c w b i (Listening l) → r ≡ stateChecks n c w b i σ
-  check-listening l r e z = rw e z
-
-  pub check-connected : (k : Connection) (r : Bool) → σ ≡ Connected k → r ≡ stateChecks n c w [] i (Connected k) → r ≡ stateChecks n c w b i σ
-  unfolding stateChecks
-  check-connected k r e z = rw e z
-
 -- ── A slot ──
 
 closed-state : (k : Cell) → k .tag ≡ 0 → stateOf k ≡ Closed
@@ -163,6 +143,34 @@ module _ (n c : ℕ) (w b : List ℕ) (i : ℕ) (k : Cell) (ek : k ≡ cellAt w 
 pub generation-in : (k : Cell) (p : Bool) → p ≡ generationWell k → not p ≡ false → k .generation ≤ 4294967295
 unfolding generationWell
 generation-in k p e t = leb-true (k .generation) 4294967295 (and-left (leb (k .generation) 4294967295) _ (sym e ∙ not-false p t))
+
+pub by-bound : (n c : ℕ) (w b : List ℕ) (i m : ℕ) (r : Bool) → r ≡ nameChecks n c w b i m → r ≡ stateChecks n c w b i (Bound m)
+unfolding stateChecks
+by-bound n c w b i m r e = e
+
+-- ── Closed slots ──
+
+pub closed-here : (w : List ℕ) (n i r : ℕ) → r < n → ClosedRun w n i r → getD w (cellBase r + 1) 0 ≡ 0 → getD w (cellBase r + 0) 0 ≤ 4294967295 → ClosedRun w n i (r + 1)
+unfolding cellAt
+closed-here w n i r h run e l =
+    record { onward = let z = run .onward in omega arith; inside = omega arith; closed = λ j hi hr. go j hi hr (decLt j r) }
+  where
+    go : (j : ℕ) → i ≤ j → j < r + 1 → Dec (j < r) → (cellAt w j .tag ≡ 0) × (cellAt w j .generation ≤ 4294967295)
+    go j hi hr (yes x) = run .closed j hi x
+    go j hi hr (no x) = let z : r ≡ j = omega arith in subst (λ (y : ℕ). (cellAt w y .tag ≡ 0) × (cellAt w y .generation ≤ 4294967295)) z (e, l)
+
+pub none-closed : (w : List ℕ) (n i : ℕ) → i ≤ n → ClosedRun w n i i
+none-closed w n i h = record { onward = omega arith; inside = h; closed = λ j hi hr. absurd (let z : j < j = omega arith in omega arith) }
+
+pub run-passes : (n c : ℕ) (w b : List ℕ) (i r : ℕ) → AllBefore (slotChecks n c w b) i → ClosedRun w n i r → AllBefore (slotChecks n c w b) r
+unfolding cellAt
+run-passes n c w b i r all run = record { all = λ j h. go j h (decLt j i) }
+  where
+    go : (j : ℕ) → j < r → Dec (j < i) → slotChecks n c w b j ≡ true
+    go j h (yes x) = all .all j x
+    go j h (no x) =
+        let z = run .closed j (omega arith) h in
+        sym (slot-closed n c w b j (z .0)) ∙ le-leb (getD w (cellBase j + 0) 0) 4294967295 (z .1)
 
 -- ── All slots ──
 

@@ -1,5 +1,6 @@
 -- The same test as the code makes it: slot by slot, a name only against those of the slots before it. proofs/Equal.antt shows that it is `formed`.
-use Prim.Native.Nat.{ℕ, _/_}
+use Prim.Native.Nat.{ℕ, _/_, _≤_, _<_}
+use mathlib.Core.Path.{_≡_}
 use mathlib.Core.Bool.{Bool, true, false, cond, not, _&&_, _||_, Bool·beq}
 use mathlib.Core.List.{List}
 use lib.Dec.{leb, ltb, eqb}
@@ -45,12 +46,25 @@ stateChecks n c w b i (Connected k) =
     && isWell c (part (placesBase n i) 256 w) (k .inbox)
     && tiedState n w i (Connected k)
 
+-- `pairFields`, in two
+abbrev pub flagsWell : Cell → Bool
+flagsWell k = leb (k .«inbox_closed») 1 && leb (k .«outbox_closed») 1
+
+abbrev pub placeWell : Cell → Bool
+placeWell k = cond (eqb (k .waits) 0) (eqb (k .place) 0) true
+
 -- an occupied slot's generation is 1 or more
 unfoldable pub generationWell : Cell → Bool
 generationWell k = leb (k .generation) 4294967295 && (not (occupied (stateOf k)) || leb 1 (k .generation))
 
 unfoldable pub slotChecks : ℕ → ℕ → List ℕ → List ℕ → ℕ → Bool
 slotChecks n c w b i = generationWell (cellAt w i) && fieldsWell (cellAt w i) && stateChecks n c w b i (stateOf (cellAt w i))
+
+-- the slots from i up to r are closed, of generations that a slot may have
+pub record ClosedRun (w : List ℕ) (n i r : ℕ) : Type 0 where
+  pub onward : i ≤ r
+  pub inside : r ≤ n
+  pub closed : (j : ℕ) → i ≤ j → j < r → (cellAt w j .tag ≡ 0) × (cellAt w j .generation ≤ 4294967295)
 
 unfoldable pub checks : ℕ → ℕ → Store → Bool
 checks n c s = headerWell n c (s .words) && every n (slotChecks n c (s .words) (s .bytes))

@@ -1,8 +1,9 @@
 // The check of a slot's own numbers.
 ghost use mathlib.Core.Path.{_≡_};
+ghost use mathlib.Core.Logic.{_≢_};
 ghost use mathlib.Core.Bool.{_&&_};
 ghost use lib.Dec.{leb, ltb};
-ghost use Rattle.table.specs.Formed.{noName, noQueue, noPair, pairFields, fieldsWell};
+ghost use Rattle.table.specs.Formed.{noName, noQueue, noPair, fieldsWell};
 ghost use Rattle.table.specs.OnePass.{generationWell};
 use storage::Cell;
 use storage::Listener;
@@ -58,22 +59,6 @@ fn no_pair(cell: Cell) -> bool
     cell.place == 0
 }
 
-// Flags are 0 or 1; a socket that does not wait has no place in a queue.
-fn pair_fields(cell: Cell) -> bool
-    ensures { λ r. ⌜ r ≡ pairFields cell ⌝ }
-{
-    if 1 < cell.inbox_closed {
-        return false;
-    }
-    if 1 < cell.outbox_closed {
-        return false;
-    }
-    if cell.waits != 0 {
-        return true;
-    }
-    cell.place == 0
-}
-
 fn unbound_fields(cell: Cell) -> bool
     ensures { λ r. ⌜ r ≡ noName cell && noQueue cell && noPair cell ⌝ }
 {
@@ -95,20 +80,9 @@ fn bound_fields(cell: Cell) -> bool
     no_pair(cell)
 }
 
-fn connected_fields(cell: Cell) -> bool
-    ensures { λ r. ⌜ r ≡ noName cell && noQueue cell && pairFields cell ⌝ }
-{
-    if !no_name(cell) {
-        return false;
-    }
-    if !no_queue(cell) {
-        return false;
-    }
-    pair_fields(cell)
-}
-
-// "a field that a state does not have 0"
+// "a field that a state does not have 0", of a slot that is not connected.
 pub fn fields_well(cell: Cell) -> bool
+    requires { ⌜ cell .tag ≢ 4 ⌝ }
     ensures { λ r. ⌜ r ≡ fieldsWell cell ⌝ }
 {
     if cell.tag == 0 {
@@ -122,9 +96,6 @@ pub fn fields_well(cell: Cell) -> bool
     }
     if cell.tag == 3 {
         return no_pair(cell);
-    }
-    if cell.tag == 4 {
-        return connected_fields(cell);
     }
     false
 }

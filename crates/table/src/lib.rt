@@ -1,4 +1,5 @@
 // The table in the lent storage: is it well-formed, and may a call go on?
+pub mod connected;
 pub mod fields;
 pub mod make;
 pub mod pairs;
@@ -6,8 +7,8 @@ pub mod pending;
 pub mod sizes;
 
 ghost use mathlib.Core.Path.{_≡_};
+ghost use mathlib.Core.Logic.{_≢_};
 ghost use mathlib.Core.Bool.{_&&_};
-ghost use mathlib.Core.List.{[]};
 ghost use Prim.Native.Nat.{_+_, _*_, _≤_, _<_};
 ghost use lib.ListN.{length, getD};
 ghost use lib.Dec.{eqb};
@@ -15,13 +16,11 @@ ghost use Rattle.words.specs.Numbers.{refusalOf};
 ghost use Rattle.rules.specs.WellFormed.{every};
 ghost use Rattle.storage.specs.Cells.{cellAt};
 ghost use Rattle.storage.specs.Rows.{lent};
-ghost use Rattle.storage.specs.declared.State.the-variants.{Listening, Connected};
+ghost use Rattle.storage.specs.declared.State.the-variants.{Listening};
 ghost use Rattle.table.specs.Formed.{headerWell};
-ghost use Rattle.table.specs.OnePass.{nameChecks, stateChecks, slotChecks};
+ghost use Rattle.table.specs.OnePass.{nameChecks, stateChecks, slotChecks, ClosedRun};
 ghost use Rattle.table.specs.Admission.{admits};
-use storage::Connection;
 use storage::Listener;
-use storage::State;
 use words::Errno;
 use words::Verdict;
 
@@ -89,47 +88,26 @@ fn listening_checks(
     pending::servers_well(words, n, i, listener)
 }
 
-fn connected_checks(
-    words: &[u64],
-    n: usize,
-    c: usize,
-    i: usize,
-    generation: u64,
-    socket: Connection,
-) -> bool
-    requires { ⌜ (i < n) × (n ≤ 1024) × (8 + 272 * n + n * n ≤ length (now words)) × (generation ≤ 4294967295) × (generation ≡ cellAt (now words) i .generation) ⌝ }
-    ensures { λ r. ⌜ r ≡ stateChecks n c (now (words .entry)) [] i (Connected socket) ⌝ }
+// A slot that is not connected.
+fn other_checks(words: &[u64], bytes: &[u8], n: usize, c: usize, i: usize) -> bool
+    requires { ⌜ (i < n) × (n ≤ 1024) × (8 + 272 * n + n * n ≤ length (now words)) × (c * n + 255 * n ≤ length (now bytes)) ⌝ }
+    requires { ⌜ cellAt (now words) i .tag ≢ 4 ⌝ }
+    ensures { λ r. ⌜ r ≡ slotChecks n c (now (words .entry)) (now (bytes .entry)) i ⌝ }
 {
-    let me = storage::handles::handle(generation, i);
-    if !pairs::peer_checks(words, n, me, socket.peer, socket.outbox_closed) {
+    let cell = storage::load_cell(words, i);
+    if !fields::generation_well(cell) {
         return false;
     }
-    if !storage::inboxes::is_well(words, n, c, i, socket.inbox) {
+    if !fields::fields_well(cell) {
         return false;
     }
-    pending::server_stands(words, n, i, me, socket)
-}
-
-// A slot's state, beside its own numbers.
-fn state_checks(
-    words: &[u64],
-    bytes: &[u8],
-    n: usize,
-    c: usize,
-    i: usize,
-    generation: u64,
-    state: State,
-) -> bool
-    requires { ⌜ (i < n) × (n ≤ 1024) × (8 + 272 * n + n * n ≤ length (now words)) × (c * n + 255 * n ≤ length (now bytes)) × (generation ≤ 4294967295) × (generation ≡ cellAt (now words) i .generation) ⌝ }
-    ensures { λ r. ⌜ r ≡ stateChecks n c (now (words .entry)) (now (bytes .entry)) i state ⌝ }
-{
-    match state {
-        State::Closed => true,
-        State::Unbound => true,
-        State::Bound(name) => name_checks(words, bytes, n, c, i, name),
-        State::Listening(listener) => listening_checks(words, bytes, n, c, i, listener),
-        State::Connected(socket) => connected_checks(words, n, c, i, generation, socket),
+    if cell.tag == 2 {
+        return name_checks(words, bytes, n, c, i, cell.name as usize);
     }
+    if cell.tag == 3 {
+        return listening_checks(words, bytes, n, c, i, storage::listener_of(cell));
+    }
+    true
 }
 
 // Of a closed slot no more than two words are read.
@@ -138,25 +116,45 @@ fn slot_checks(words: &[u64], bytes: &[u8], n: usize, c: usize, i: usize) -> boo
     ensures { λ r. ⌜ r ≡ slotChecks n c (now (words .entry)) (now (bytes .entry)) i ⌝ }
 {
     let b = 8 + 16 * i;
-    if words[b + 1] == 0 {
+    let tag = words[b + 1];
+    if tag == 4 {
+        return connected::slot_checks(words, n, c, i);
+    }
+    if tag == 0 {
         return words[b + 0] <= 4294967295;
     }
-    let cell = storage::load_cell(words, i);
-    if !fields::generation_well(cell) {
-        return false;
+    other_checks(words, bytes, n, c, i)
+}
+
+// The first slot from `from` on that is not closed, or whose generation is too large; or `n`.
+fn skip_closed(words: &[u64], n: usize, from: usize) -> usize
+    requires { ⌜ (from ≤ n) × (n ≤ 1024) × (8 + 16 * n ≤ length (now words)) ⌝ }
+    ensures { λ r. ⌜ ClosedRun (now (words .entry)) n from r ⌝ }
+{
+    let mut i = from;
+    while i < n {
+        let b = 8 + 16 * i;
+        if words[b + 1] != 0 {
+            return i;
+        }
+        if 4294967295 < words[b + 0] {
+            return i;
+        }
+        i += 1;
     }
-    if !fields::fields_well(cell) {
-        return false;
+    i
+}
+
+// The slot to be checked after slot `i`: a connected one has most often a neighbour.
+fn next_slot(words: &[u64], n: usize, i: usize) -> usize
+    requires { ⌜ (i < n) × (n ≤ 1024) × (8 + 16 * n ≤ length (now words)) ⌝ }
+    ensures { λ r. ⌜ ClosedRun (now (words .entry)) n (i + 1) r ⌝ }
+{
+    let b = 8 + 16 * i;
+    if words[b + 1] == 4 {
+        return i + 1;
     }
-    state_checks(
-        words,
-        bytes,
-        n,
-        c,
-        i,
-        cell.generation,
-        storage::decode(cell),
-    )
+    skip_closed(words, n, i + 1)
 }
 
 // The whole check, one pass over the slots: `checks` of specs/OnePass, which does not look at the
@@ -168,12 +166,12 @@ pub fn well_formed(words: &[u64], bytes: &[u8], n: usize, c: usize) -> bool
     if !header_well(words, n, c) {
         return false;
     }
-    let mut i = 0;
+    let mut i = skip_closed(words, n, 0);
     while i < n {
         if !slot_checks(words, bytes, n, c, i) {
             return false;
         }
-        i += 1;
+        i = next_slot(words, n, i);
     }
     true
 }

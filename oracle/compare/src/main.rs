@@ -32,7 +32,7 @@ const USAGE: &str = "usage: compare COMMAND
   damage SEED COUNT COUNT tables with overwritten storage or too little lent
   mutants           each of a list of wrong answers must be seen
   mistakes          each one-token mistake in a copy of the original must be seen (feature `mistakes`)
-  store SEED CALLS QUESTIONS   prints the stored answers
+  store SEED CALLS QUESTIONS   writes the stored answers, crates/replay/stdin
   replay [FILE]     the library against stored answers, without the original";
 
 /// Says where the run stands and how long a part took.

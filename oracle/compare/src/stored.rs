@@ -1,4 +1,4 @@
-//! The stored answers of the original, oracle/answers.txt: written by `store`, and checked against the
+//! The stored answers of the original, crates/replay/stdin: written by `store`, and checked against the
 //! library by `replay`, which needs no original.
 
 use crate::call;

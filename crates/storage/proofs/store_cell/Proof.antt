@@ -1,7 +1,4 @@
-use mathlib.Core.Path.{refl}
-use lib.ListN.{length-set}
-use Rattle.storage.specs.Cells.{storeAt}
-use native.Mathlib.Omega.{arith}
+use Rattle.storage.proofs.Fours.{stored}
 use borrow.Author.Needs.{needs}
 use Rattle.storage.proofs.store_cell.Statement.{statement}
 use Rattle.storage.proofs.store_cell.Tie as tie
@@ -12,156 +9,24 @@ mul-b c = search needs
 add-b : tie.Need-add-b
 add-b c = search needs
 
-add-words : tie.Need-add-words
-add-words c = search needs
+store-four-requires : tie.Need-store-four-requires
+store-four-requires c κs = search needs
 
-mul-words : tie.Need-mul-words
-mul-words c = search needs
+store-four-requires-2 : tie.Need-store-four-requires-2
+store-four-requires-2 c κs = search needs
 
-slice-write-words : tie.Need-slice-write-words
-slice-write-words c = search needs
+store-four-requires-3 : tie.Need-store-four-requires-3
+store-four-requires-3 c κs = search needs
 
-add-words-2 : tie.Need-add-words-2
-add-words-2 c = search needs
-
-mul-words-2 : tie.Need-mul-words-2
-mul-words-2 c = search needs
-
-slice-write-words-2 : tie.Need-slice-write-words-2
-slice-write-words-2 c = simp length-set (omega arith)
-
-add-words-3 : tie.Need-add-words-3
-add-words-3 c = search needs
-
-mul-words-3 : tie.Need-mul-words-3
-mul-words-3 c = search needs
-
-slice-write-words-3 : tie.Need-slice-write-words-3
-slice-write-words-3 c = simp length-set (omega arith)
-
-add-words-4 : tie.Need-add-words-4
-add-words-4 c = search needs
-
-mul-words-4 : tie.Need-mul-words-4
-mul-words-4 c = search needs
-
-slice-write-words-4 : tie.Need-slice-write-words-4
-slice-write-words-4 c = simp length-set (omega arith)
-
-add-words-5 : tie.Need-add-words-5
-add-words-5 c = search needs
-
-mul-words-5 : tie.Need-mul-words-5
-mul-words-5 c = search needs
-
-slice-write-words-5 : tie.Need-slice-write-words-5
-slice-write-words-5 c = simp length-set (omega arith)
-
-add-words-6 : tie.Need-add-words-6
-add-words-6 c = search needs
-
-mul-words-6 : tie.Need-mul-words-6
-mul-words-6 c = search needs
-
-slice-write-words-6 : tie.Need-slice-write-words-6
-slice-write-words-6 c = simp length-set (omega arith)
-
-add-words-7 : tie.Need-add-words-7
-add-words-7 c = search needs
-
-mul-words-7 : tie.Need-mul-words-7
-mul-words-7 c = search needs
-
-slice-write-words-7 : tie.Need-slice-write-words-7
-slice-write-words-7 c = simp length-set (omega arith)
-
-add-words-8 : tie.Need-add-words-8
-add-words-8 c = search needs
-
-mul-words-8 : tie.Need-mul-words-8
-mul-words-8 c = search needs
-
-slice-write-words-8 : tie.Need-slice-write-words-8
-slice-write-words-8 c = simp length-set (omega arith)
-
-add-words-9 : tie.Need-add-words-9
-add-words-9 c = search needs
-
-mul-words-9 : tie.Need-mul-words-9
-mul-words-9 c = search needs
-
-slice-write-words-9 : tie.Need-slice-write-words-9
-slice-write-words-9 c = simp length-set (omega arith)
-
-add-words-10 : tie.Need-add-words-10
-add-words-10 c = search needs
-
-mul-words-10 : tie.Need-mul-words-10
-mul-words-10 c = search needs
-
-slice-write-words-10 : tie.Need-slice-write-words-10
-slice-write-words-10 c = simp length-set (omega arith)
-
-add-words-11 : tie.Need-add-words-11
-add-words-11 c = search needs
-
-mul-words-11 : tie.Need-mul-words-11
-mul-words-11 c = search needs
-
-slice-write-words-11 : tie.Need-slice-write-words-11
-slice-write-words-11 c = simp length-set (omega arith)
-
-add-words-12 : tie.Need-add-words-12
-add-words-12 c = search needs
-
-mul-words-12 : tie.Need-mul-words-12
-mul-words-12 c = search needs
-
-slice-write-words-12 : tie.Need-slice-write-words-12
-slice-write-words-12 c = simp length-set (omega arith)
-
-add-words-13 : tie.Need-add-words-13
-add-words-13 c = search needs
-
-mul-words-13 : tie.Need-mul-words-13
-mul-words-13 c = search needs
-
-slice-write-words-13 : tie.Need-slice-write-words-13
-slice-write-words-13 c = simp length-set (omega arith)
-
-add-words-14 : tie.Need-add-words-14
-add-words-14 c = search needs
-
-mul-words-14 : tie.Need-mul-words-14
-mul-words-14 c = search needs
-
-slice-write-words-14 : tie.Need-slice-write-words-14
-slice-write-words-14 c = simp length-set (omega arith)
-
-add-words-15 : tie.Need-add-words-15
-add-words-15 c = search needs
-
-mul-words-15 : tie.Need-mul-words-15
-mul-words-15 c = search needs
-
-slice-write-words-15 : tie.Need-slice-write-words-15
-slice-write-words-15 c = simp length-set (omega arith)
-
-add-words-16 : tie.Need-add-words-16
-add-words-16 c = search needs
-
-mul-words-16 : tie.Need-mul-words-16
-mul-words-16 c = search needs
-
-slice-write-words-16 : tie.Need-slice-write-words-16
-slice-write-words-16 c = simp length-set (omega arith)
+store-four-requires-4 : tie.Need-store-four-requires-4
+store-four-requires-4 c κs = search needs
 
 same-length : tie.Need-same-length
-same-length c = simp length-set (omega arith)
+same-length c = search needs
 
 returns : tie.Need-returns
-unfolding storeAt
-returns c = refl
+returns c =
+    stored _ _ _ _ _ (c .before .before .before .before .before .before .before .before .before .before .before .before .before .before .before .before .before .args .i) _ _ _ _ (c .before .before .before .before .before .before .before .before .before .before .before .before .before .before .store-four .ensures) (c .before .before .before .before .before .before .before .before .before .before .store-four2 .ensures) (c .before .before .before .before .before .before .store-four3 .ensures) (c .before .before .store-four4 .ensures)
 
 pub store-cell-spec : {M : Type 1} → statement M
 store-cell-spec =
@@ -169,53 +34,9 @@ store-cell-spec =
     (tie.spec
     mul-b
     add-b
-    add-words
-    mul-words
-    slice-write-words
-    add-words-2
-    mul-words-2
-    slice-write-words-2
-    add-words-3
-    mul-words-3
-    slice-write-words-3
-    add-words-4
-    mul-words-4
-    slice-write-words-4
-    add-words-5
-    mul-words-5
-    slice-write-words-5
-    add-words-6
-    mul-words-6
-    slice-write-words-6
-    add-words-7
-    mul-words-7
-    slice-write-words-7
-    add-words-8
-    mul-words-8
-    slice-write-words-8
-    add-words-9
-    mul-words-9
-    slice-write-words-9
-    add-words-10
-    mul-words-10
-    slice-write-words-10
-    add-words-11
-    mul-words-11
-    slice-write-words-11
-    add-words-12
-    mul-words-12
-    slice-write-words-12
-    add-words-13
-    mul-words-13
-    slice-write-words-13
-    add-words-14
-    mul-words-14
-    slice-write-words-14
-    add-words-15
-    mul-words-15
-    slice-write-words-15
-    add-words-16
-    mul-words-16
-    slice-write-words-16
+    store-four-requires
+    store-four-requires-2
+    store-four-requires-3
+    store-four-requires-4
     same-length
     returns)

@@ -1,6 +1,7 @@
-use mathlib.Core.Path.{ap}
-use Rattle.storage.specs.declared.Cell.{Cell}
-use Rattle.table.proofs.Pass.{slot-closed, bad-generation, bad-fields, by-state, generation-in}
+use mathlib.Core.Path.{_∙_}
+use Rattle.storage.specs.Cells.{cellAt}
+use Rattle.table.proofs.WordByWord.{no-bytes}
+use Rattle.table.proofs.Pass.{slot-closed}
 use borrow.Author.Needs.{needs}
 use Rattle.table.proofs.slot_checks.Statement.{statement}
 use Rattle.table.proofs.slot_checks.Tie as tie
@@ -11,14 +12,22 @@ mul-b c = search needs
 add-b : tie.Need-add-b
 add-b c = search needs
 
-add-if1 : tie.Need-add-if1
-add-if1 c = search needs
+add-tag : tie.Need-add-tag
+add-tag c = search needs
 
-mul-if1 : tie.Need-mul-if1
-mul-if1 c = search needs
+mul-tag : tie.Need-mul-tag
+mul-tag c = search needs
 
-shared-slice-read-if1 : tie.Need-shared-slice-read-if1
-shared-slice-read-if1 c = search needs
+shared-slice-read-tag : tie.Need-shared-slice-read-tag
+shared-slice-read-tag c = search needs
+
+slot-checks-requires : tie.Need-slot-checks-requires
+unfolding cellAt
+slot-checks-requires c κs = search needs
+
+returns : tie.Need-returns
+unfolding cellAt
+returns c = c .slot-checks .ensures ∙ no-bytes _ _ _ _ (c .before .if1 .taken) _
 
 add-result : tie.Need-add-result
 add-result c = search needs
@@ -29,37 +38,15 @@ mul-result c = search needs
 shared-slice-read-result : tie.Need-shared-slice-read-result
 shared-slice-read-result c = search needs
 
-returns : tie.Need-returns
-returns c = search slot-closed
-
-load-cell-requires : tie.Need-load-cell-requires
-load-cell-requires c κs = search needs
-
-generation-well-requires : tie.Need-generation-well-requires
-generation-well-requires c κs = search needs
-
 returns-2 : tie.Need-returns-2
-returns-2 c = search bad-generation
+returns-2 c = search slot-closed
 
-fields-well-requires : tie.Need-fields-well-requires
-fields-well-requires c κs = search needs
+other-checks-requires : tie.Need-other-checks-requires
+unfolding cellAt
+other-checks-requires c κs = search needs
 
 returns-3 : tie.Need-returns-3
-returns-3 c = search bad-fields
-
-decode-requires : tie.Need-decode-requires
-decode-requires c κs = search needs
-
-state-checks-requires : tie.Need-state-checks-requires
-state-checks-requires c κs =
-    let k = c .before .before .before .before .before .load-cell in
-    let g = c .before .before .before .before .generation-well in
-    let z = generation-in (k .result) (g .result) (g .ensures) (c .before .before .before .if2 .left) in
-    let e = ap (λ (x : Cell). x .generation) (k .ensures) in
-    search needs
-
-returns-4 : tie.Need-returns-4
-returns-4 c = search by-state
+returns-3 c = search needs
 
 pub slot-checks-spec : {M : Type 1} → statement M
 slot-checks-spec =
@@ -67,18 +54,14 @@ slot-checks-spec =
     (tie.spec
     mul-b
     add-b
-    add-if1
-    mul-if1
-    shared-slice-read-if1
+    add-tag
+    mul-tag
+    shared-slice-read-tag
+    slot-checks-requires
+    returns
     add-result
     mul-result
     shared-slice-read-result
-    returns
-    load-cell-requires
-    generation-well-requires
     returns-2
-    fields-well-requires
-    returns-3
-    decode-requires
-    state-checks-requires
-    returns-4)
+    other-checks-requires
+    returns-3)

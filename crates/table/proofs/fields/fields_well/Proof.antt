@@ -1,4 +1,4 @@
-use Rattle.table.proofs.OwnNumbers.{fields-closed, fields-unbound, fields-bound, fields-listening, fields-connected, fields-other}
+use Rattle.table.proofs.OwnNumbers.{fields-closed, fields-unbound, fields-bound, fields-listening, fields-other}
 use borrow.Author.Needs.{needs}
 use Rattle.table.proofs.fields.fields_well.Statement.{statement}
 use Rattle.table.proofs.fields.fields_well.Tie as tie
@@ -24,14 +24,8 @@ no-pair-requires c κs = search needs
 returns-4 : tie.Need-returns-4
 returns-4 c = search fields-listening
 
-connected-fields-requires : tie.Need-connected-fields-requires
-connected-fields-requires c κs = search needs
-
 returns-5 : tie.Need-returns-5
-returns-5 c = search fields-connected
-
-returns-6 : tie.Need-returns-6
-returns-6 c = fields-other _ (c .before .before .before .before .before .before .before .before .if1 .left) (c .before .before .before .before .before .before .if2 .left) (c .before .before .before .before .if3 .left) (c .before .before .if4 .left) (c .if5 .left)
+returns-5 c = fields-other _ (c .before .before .before .before .before .before .if1 .left) (c .before .before .before .before .if2 .left) (c .before .before .if3 .left) (c .if4 .left) (c .before .before .before .before .before .before .before .before .pre)
 
 pub fields-well-spec : {M : Type 1} → statement M
 fields-well-spec =
@@ -44,6 +38,4 @@ fields-well-spec =
     returns-3
     no-pair-requires
     returns-4
-    connected-fields-requires
-    returns-5
-    returns-6)
+    returns-5)
