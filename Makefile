@@ -6,6 +6,7 @@
 # make c-test   the library called from C
 # make oracle   the whole comparison with the Rust original, in minutes
 # make bench    times the library beside memcpy and the Rust original (docs/BENCH.md)
+# make edits    the wrong programs that are not in the gate: each must be refused
 # make fmt      lay the sources out
 #
 # All that is needed is Rattle's kit, whose command `rt` is on the PATH; C and Rust are called only where a compiler
@@ -16,7 +17,7 @@ SEED ?= 1
 export RT_JOBS ?= 4
 ARCHIVE = target/native/libeidrovang.a
 
-.PHONY: run tour test native archive c-test oracle bench fmt kit
+.PHONY: run tour test native archive c-test oracle bench edits fmt kit
 
 run: kit
 	@if command -v cargo >/dev/null; then $(MAKE) --no-print-directory $(ARCHIVE) && \
@@ -59,6 +60,9 @@ bench: archive
 	@command -v cargo >/dev/null || { echo "bench: passed over, there is no cargo"; exit 0; }; \
 	scripts/native-archive bench_exports target/native/libbench_exports.a && \
 	EIDROVANG_LIB_DIR=$$PWD/target/native cargo run --quiet --release --offline --manifest-path bench/Cargo.toml --target-dir target/bench
+
+edits: kit
+	@scripts/more-edits
 
 fmt: kit
 	@rt fmt
