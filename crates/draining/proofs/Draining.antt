@@ -24,7 +24,7 @@ use Rattle.rules.specs.Outcome.{Call, Outcome, refuse, answer, refuseIf, openOn
 use Rattle.rules.specs.Moving.{Policy, drained, drain}
 use Rattle.rules.specs.Run.{run}
 use Rattle.storage.specs.Layout.{part, placesBase, ringBase, tokensBase}
-use Rattle.storage.specs.Cells.{cellAt, stateOf, storeAt, cellOf}
+use Rattle.storage.specs.Cells.{cellAt, stateOf, storeAt, cellOf, withInbox}
 use Rattle.storage.specs.Rows.{Store, Row, lent, rowAt, withCell, Roomy}
 use Rattle.storage.specs.View.{view}
 use Rattle.storage.specs.Finding.{openIn, liveIn}
@@ -42,7 +42,6 @@ use Rattle.promise.proofs.Changed.{cell-stored, unchanged}
 use Rattle.promise.proofs.Live.{Live, live, live-run, stale-run, state-seen}
 use Rattle.promise.proofs.Called.{loadedAt, Unconnected, unconnected}
 use Rattle.promise.proofs.Held.{ring-long, places-long, tokens-long, inboxIn, Sized, sized, Held, held, gone-hidden, placed-same, connected-fit, connected-keeps, connected-put}
-use Rattle.moving.specs.Parts.{withInbox}
 use Rattle.draining.specs.Parts.{Drains, nothingQueued, Wakes}
 
 -- ── The wake list ──

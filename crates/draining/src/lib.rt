@@ -138,7 +138,7 @@ fn drain(
         releases,
     );
     let inbox = taken.inbox;
-    moving::store_inbox(words, i, slot.generation, connection, inbox);
+    storage::store_inbox(words, i, slot.generation, connection, inbox);
     let woken = wake(wakes, peer, peer_open);
     Answer {
         refusal: 0,

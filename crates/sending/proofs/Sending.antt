@@ -28,7 +28,7 @@ use Rattle.rules.specs.Outcome.{Call, Outcome, refuse, answer, refuseIf}
 use Rattle.rules.specs.Moving.{room, send, doSend}
 use Rattle.rules.specs.Run.{run}
 use Rattle.storage.specs.Layout.{part, placesBase, ringBase, tokensBase}
-use Rattle.storage.specs.Cells.{cellAt, stateOf, storeAt, cellOf}
+use Rattle.storage.specs.Cells.{cellAt, stateOf, storeAt, cellOf, withInbox}
 use Rattle.storage.specs.Rows.{Store, Row, lent, rowAt, rows, withCell, withPlaces, withRing, withTokens, Roomy, Around}
 use Rattle.storage.specs.View.{view, showIn}
 use Rattle.storage.specs.Finding.{openIn, liveIn}
@@ -55,7 +55,6 @@ use Rattle.promise.proofs.Kept.{row-changed}
 use Rattle.promise.proofs.Changed.{row-stored, accepted-done}
 use Rattle.promise.proofs.Called.{loadedAt, Unconnected, unconnected}
 use Rattle.promise.proofs.Held.{ring-long, places-long, tokens-long, inboxIn, Sized, sized, Held, held, hidden-of, placed-same, connected-fit, connected-keeps, connected-put}
-use Rattle.moving.specs.Parts.{withInbox}
 use Rattle.sending.specs.Parts.{Sends}
 
 -- ── The numbers that the view forgets ──

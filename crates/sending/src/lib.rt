@@ -116,7 +116,7 @@ fn send(
         Verdict::Accepted => {
             let pushed = inboxes::push(words, bytes, tokens, n, c, j, inbox, buf, items);
             let inbox = pushed.inbox;
-            moving::store_inbox(words, j, slot.generation, peer, inbox);
+            storage::store_inbox(words, j, slot.generation, peer, inbox);
             wakes[0] = p.0;
             promise::accepted(pushed.moved as u64, 1)
         }

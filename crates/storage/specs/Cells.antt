@@ -4,6 +4,7 @@ use mathlib.Core.Bool.{Bool, true, false, cond, not}
 use mathlib.Core.List.{List, [], _∷_}
 use lib.ListN.{getD, set}
 use lib.Dec.{eqb}
+use Rattle.inbox.specs.declared.Inbox.{Inbox}
 use Rattle.storage.specs.Layout.{cellBase}
 use Rattle.storage.specs.declared.Cell.{Cell}
 use Rattle.storage.specs.declared.Four.{Four}
@@ -154,3 +155,7 @@ cellOf g Unbound = plainCell g 1 0
 cellOf g (Bound m) = plainCell g 2 m
 cellOf g (Listening l) = listeningCell g l
 cellOf g (Connected c) = connectedCell g c
+
+-- a connection with another inbox
+abbrev pub withInbox : Connection → Inbox → Connection
+withInbox k q = record { peer = k .peer; inbox = q; «inbox_closed» = k .«inbox_closed»; «outbox_closed» = k .«outbox_closed»; waits = k .waits; place = k .place }

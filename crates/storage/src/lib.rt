@@ -8,7 +8,8 @@ ghost use mathlib.Core.Path.{_≡_};
 ghost use Prim.Native.Nat.{_+_, _*_, _≤_, _<_};
 ghost use lib.ListN.{length};
 ghost use Rattle.storage.specs.Layout.{sizesOf};
-ghost use Rattle.storage.specs.Cells.{fourAt, putFour, cellAt, storeAt, stateOf, cellOf, listenerOf, connectionOf, plainCell, listeningCell, connectedCell};
+ghost use Rattle.storage.specs.Cells.{fourAt, putFour, cellAt, storeAt, stateOf, cellOf, listenerOf, connectionOf, plainCell, listeningCell, connectedCell, withInbox};
+ghost use Rattle.storage.specs.declared.State.the-variants.{Connected};
 use inbox::Inbox;
 use words::Handle;
 
@@ -105,6 +106,29 @@ pub fn store(words: &mut [u64], i: usize, slot: Slot)
     ensures { λ _. ⌜ now (words .exit) ≡ storeAt (now (words .entry)) i (cellOf (slot .generation) (slot .state)) ⌝ }
 {
     store_cell(words, i, encode(slot));
+}
+
+// A connection with another inbox, into slot `i`.
+pub fn store_inbox(
+    words: &mut [u64],
+    i: usize,
+    generation: u64,
+    connection: Connection,
+    inbox: Inbox,
+)
+    requires { ⌜ 8 + 16 * i + 16 ≤ length (now words) ⌝ }
+    ensures { λ _. ⌜ now (words .exit) ≡ storeAt (now (words .entry)) i (cellOf generation (Connected (withInbox connection inbox))) ⌝ }
+{
+    let peer = connection.peer;
+    let state = State::Connected(Connection {
+        peer,
+        inbox,
+        inbox_closed: connection.inbox_closed,
+        outbox_closed: connection.outbox_closed,
+        waits: connection.waits,
+        place: connection.place,
+    });
+    store(words, i, Slot { generation, state });
 }
 
 // Four words of a slot.

@@ -14,5 +14,6 @@ pub mod WordByWord
 pub mod Peers
 pub mod Servers
 pub mod Pass
+pub mod Runs
 pub mod Admitting
 pub mod Fresh

@@ -148,30 +148,6 @@ pub by-bound : (n c : ℕ) (w b : List ℕ) (i m : ℕ) (r : Bool) → r ≡ nam
 unfolding stateChecks
 by-bound n c w b i m r e = e
 
--- ── Closed slots ──
-
-pub closed-here : (w : List ℕ) (n i r : ℕ) → r < n → ClosedRun w n i r → getD w (cellBase r + 1) 0 ≡ 0 → getD w (cellBase r + 0) 0 ≤ 4294967295 → ClosedRun w n i (r + 1)
-unfolding cellAt
-closed-here w n i r h run e l =
-    record { onward = let z = run .onward in omega arith; inside = omega arith; closed = λ j hi hr. go j hi hr (decLt j r) }
-  where
-    go : (j : ℕ) → i ≤ j → j < r + 1 → Dec (j < r) → (cellAt w j .tag ≡ 0) × (cellAt w j .generation ≤ 4294967295)
-    go j hi hr (yes x) = run .closed j hi x
-    go j hi hr (no x) = let z : r ≡ j = omega arith in subst (λ (y : ℕ). (cellAt w y .tag ≡ 0) × (cellAt w y .generation ≤ 4294967295)) z (e, l)
-
-pub none-closed : (w : List ℕ) (n i : ℕ) → i ≤ n → ClosedRun w n i i
-none-closed w n i h = record { onward = omega arith; inside = h; closed = λ j hi hr. absurd (let z : j < j = omega arith in omega arith) }
-
-pub run-passes : (n c : ℕ) (w b : List ℕ) (i r : ℕ) → AllBefore (slotChecks n c w b) i → ClosedRun w n i r → AllBefore (slotChecks n c w b) r
-unfolding cellAt
-run-passes n c w b i r all run = record { all = λ j h. go j h (decLt j i) }
-  where
-    go : (j : ℕ) → j < r → Dec (j < i) → slotChecks n c w b j ≡ true
-    go j h (yes x) = all .all j x
-    go j h (no x) =
-        let z = run .closed j (omega arith) h in
-        sym (slot-closed n c w b j (z .0)) ∙ le-leb (getD w (cellBase j + 0) 0) 4294967295 (z .1)
-
 -- ── All slots ──
 
 module _ (n c : ℕ) (w b : List ℕ) (i : ℕ) (h : Bool) (eh : h ≡ headerWell n c w) (th : not h ≡ false) where

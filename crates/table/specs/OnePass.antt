@@ -66,5 +66,16 @@ pub record ClosedRun (w : List ℕ) (n i r : ℕ) : Type 0 where
   pub inside : r ≤ n
   pub closed : (j : ℕ) → i ≤ j → j < r → (cellAt w j .tag ≡ 0) × (cellAt w j .generation ≤ 4294967295)
 
+-- the slots from i up to r pass, whatever the bytes
+pub record PassRun (n c : ℕ) (w : List ℕ) (i r : ℕ) : Type 0 where
+  pub onward : i ≤ r
+  pub inside : r ≤ n
+  pub passes : (j : ℕ) (b : List ℕ) → i ≤ j → j < r → slotChecks n c w b j ≡ true
+
+-- .. and slot r does not, if it is connected
+pub record Skips (n c : ℕ) (w : List ℕ) (i r : ℕ) : Type 0 where
+  pub run : PassRun n c w i r
+  pub stops : (b : List ℕ) → r < n → cellAt w r .tag ≡ 4 → slotChecks n c w b r ≡ false
+
 unfoldable pub checks : ℕ → ℕ → Store → Bool
 checks n c s = headerWell n c (s .words) && every n (slotChecks n c (s .words) (s .bytes))

@@ -7,7 +7,7 @@ ghost use lib.ListN.{length};
 ghost use Rattle.storage.specs.Cells.{cellAt, connectionOf};
 ghost use Rattle.storage.specs.declared.State.the-variants.{Connected};
 ghost use Rattle.table.specs.Formed.{noName, noQueue};
-ghost use Rattle.table.specs.OnePass.{flagsWell, placeWell, stateChecks, slotChecks};
+ghost use Rattle.table.specs.OnePass.{flagsWell, placeWell, stateChecks, slotChecks, Skips};
 use inbox::Inbox;
 use words::Handle;
 
@@ -84,7 +84,7 @@ fn state_checks(words: &[u64], n: usize, c: usize, i: usize, generation: u64) ->
     crate::pending::server_stands(words, n, i, me, server)
 }
 
-pub fn slot_checks(words: &[u64], n: usize, c: usize, i: usize) -> bool
+fn slot_checks(words: &[u64], n: usize, c: usize, i: usize) -> bool
     requires { ⌜ (i < n) × (n ≤ 1024) × (8 + 272 * n + n * n ≤ length (now words)) × (cellAt (now words) i .tag ≡ 4) ⌝ }
     ensures { λ r. ⌜ r ≡ slotChecks n c (now (words .entry)) [] i ⌝ }
 {
@@ -103,4 +103,23 @@ pub fn slot_checks(words: &[u64], n: usize, c: usize, i: usize) -> bool
         return false;
     }
     state_checks(words, n, c, i, generation)
+}
+
+// The first slot from `from` on that is not connected, or is not well; or `n`. A loop of its own: most open slots are connected.
+pub fn skip_well(words: &[u64], n: usize, c: usize, from: usize) -> usize
+    requires { ⌜ (from ≤ n) × (n ≤ 1024) × (8 + 272 * n + n * n ≤ length (now words)) ⌝ }
+    ensures { λ r. ⌜ Skips n c (now (words .entry)) from r ⌝ }
+{
+    let mut i = from;
+    while i < n {
+        let b = 8 + 16 * i;
+        if words[b + 1] != 4 {
+            return i;
+        }
+        if !slot_checks(words, n, c, i) {
+            return i;
+        }
+        i += 1;
+    }
+    i
 }

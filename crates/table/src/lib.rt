@@ -8,7 +8,7 @@ pub mod sizes;
 
 ghost use mathlib.Core.Path.{_≡_};
 ghost use mathlib.Core.Logic.{_≢_};
-ghost use mathlib.Core.Bool.{_&&_};
+ghost use mathlib.Core.Bool.{false, _&&_};
 ghost use Prim.Native.Nat.{_+_, _*_, _≤_, _<_};
 ghost use lib.ListN.{length, getD};
 ghost use lib.Dec.{eqb};
@@ -110,15 +110,16 @@ fn other_checks(words: &[u64], bytes: &[u8], n: usize, c: usize, i: usize) -> bo
     true
 }
 
-// Of a closed slot no more than two words are read.
+// A slot that was not skipped: a connected one is not well. Of a closed slot no more than two words are read.
 fn slot_checks(words: &[u64], bytes: &[u8], n: usize, c: usize, i: usize) -> bool
     requires { ⌜ (i < n) × (n ≤ 1024) × (8 + 272 * n + n * n ≤ length (now words)) × (c * n + 255 * n ≤ length (now bytes)) ⌝ }
+    requires { ⌜ (cellAt (now words) i .tag ≡ 4 → slotChecks n c (now words) (now bytes) i ≡ false) ⌝ }
     ensures { λ r. ⌜ r ≡ slotChecks n c (now (words .entry)) (now (bytes .entry)) i ⌝ }
 {
     let b = 8 + 16 * i;
     let tag = words[b + 1];
     if tag == 4 {
-        return connected::slot_checks(words, n, c, i);
+        return false;
     }
     if tag == 0 {
         return words[b + 0] <= 4294967295;
@@ -145,18 +146,6 @@ fn skip_closed(words: &[u64], n: usize, from: usize) -> usize
     i
 }
 
-// The slot to be checked after slot `i`: a connected one has most often a neighbour.
-fn next_slot(words: &[u64], n: usize, i: usize) -> usize
-    requires { ⌜ (i < n) × (n ≤ 1024) × (8 + 16 * n ≤ length (now words)) ⌝ }
-    ensures { λ r. ⌜ ClosedRun (now (words .entry)) n (i + 1) r ⌝ }
-{
-    let b = 8 + 16 * i;
-    if words[b + 1] == 4 {
-        return i + 1;
-    }
-    skip_closed(words, n, i + 1)
-}
-
 // The whole check, one pass over the slots: `checks` of specs/OnePass, which does not look at the
 // items.
 pub fn well_formed(words: &[u64], bytes: &[u8], n: usize, c: usize) -> bool
@@ -168,10 +157,13 @@ pub fn well_formed(words: &[u64], bytes: &[u8], n: usize, c: usize) -> bool
     }
     let mut i = skip_closed(words, n, 0);
     while i < n {
-        if !slot_checks(words, bytes, n, c, i) {
-            return false;
+        i = connected::skip_well(words, n, c, i);
+        if i < n {
+            if !slot_checks(words, bytes, n, c, i) {
+                return false;
+            }
+            i = skip_closed(words, n, i + 1);
         }
-        i = next_slot(words, n, i);
     }
     true
 }

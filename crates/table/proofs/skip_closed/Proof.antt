@@ -2,7 +2,7 @@
 use Prim.Native.Nat.{_-_}
 use borrow.Author.Needs.{needs}
 use Rattle.table.specs.OnePass.{ClosedRun}
-use Rattle.table.proofs.Pass.{none-closed, closed-here}
+use Rattle.table.proofs.Runs.{none-closed, closed-here}
 use Rattle.table.proofs.skip_closed.Statement.{statement}
 use Rattle.table.proofs.skip_closed.Tie as tie
 

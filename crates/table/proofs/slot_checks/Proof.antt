@@ -1,6 +1,5 @@
-use mathlib.Core.Path.{_∙_}
+use mathlib.Core.Path.{sym}
 use Rattle.storage.specs.Cells.{cellAt}
-use Rattle.table.proofs.WordByWord.{no-bytes}
 use Rattle.table.proofs.Pass.{slot-closed}
 use borrow.Author.Needs.{needs}
 use Rattle.table.proofs.slot_checks.Statement.{statement}
@@ -21,13 +20,9 @@ mul-tag c = search needs
 shared-slice-read-tag : tie.Need-shared-slice-read-tag
 shared-slice-read-tag c = search needs
 
-slot-checks-requires : tie.Need-slot-checks-requires
-unfolding cellAt
-slot-checks-requires c κs = search needs
-
 returns : tie.Need-returns
 unfolding cellAt
-returns c = c .slot-checks .ensures ∙ no-bytes _ _ _ _ (c .before .if1 .taken) _
+returns c = sym (c .before .before .before .before .pre .1 (c .if1 .taken))
 
 add-result : tie.Need-add-result
 add-result c = search needs
@@ -57,7 +52,6 @@ slot-checks-spec =
     add-tag
     mul-tag
     shared-slice-read-tag
-    slot-checks-requires
     returns
     add-result
     mul-result

@@ -1,12 +1,13 @@
 -- The slots before i are well.
 use mathlib.Core.Path.{sym, _∙_}
-use Prim.Native.Nat.{_+_, _-_, _≤_}
+use Prim.Native.Nat.{_-_, _≤_}
 use native.Mathlib.Omega.{arith}
+use borrow.Author.Needs.{needs}
 use borrow.Author.Tests.{not-false}
 use Rattle.table.specs.OnePass.{slotChecks}
 use Rattle.table.proofs.Conjunctions.{first-of-two, AllBefore, all-yet, all-here}
-use Rattle.table.proofs.Pass.{run-passes, slot-fails, slots-pass}
-use borrow.Author.Needs.{needs}
+use Rattle.table.proofs.Pass.{slot-fails, slots-pass}
+use Rattle.table.proofs.Runs.{closed-pass, run-passes}
 use Rattle.table.proofs.well_formed.Statement.{statement}
 use Rattle.table.proofs.well_formed.Tie as tie
 
@@ -28,39 +29,53 @@ skip-closed-requires c κs = search needs
 loop-holds : tie.Need-loop-holds Inv-loop μ-loop
 loop-holds c =
     let r = c .skip-closed .ensures in
-    (r .inside, run-passes _ _ _ _ 0 _ (all-yet _) r)
+    (r .inside, closed-pass _ _ _ _ 0 _ (all-yet _) r)
+
+skip-well-requires : tie.Need-skip-well-requires Inv-loop μ-loop
+skip-well-requires c κs = search needs
 
 slot-checks-requires : tie.Need-slot-checks-requires Inv-loop μ-loop
-slot-checks-requires c κs = search needs
+slot-checks-requires c κs = (search needs, c .before .skip-well .ensures .stops _ (c .if2 .taken))
 
 returns-2 : tie.Need-returns-2 Inv-loop μ-loop
 returns-2 c =
-    let a = c .before .before .before .before .before .before .before .before .before .args in
-    let h = c .before .before .before .before .before .before .header-well in
-    let l = c .before .before .before .loop in
+    let h = c .before .before .before .before .before .before .before .before .header-well in
     let s = c .before .slot-checks in
-    slot-fails (a .n) (a .c) (a .words .now) (a .bytes .now) (l .i) (h .result) (h .ensures) (c .before .before .before .before .before .if1 .left) (s .result) (omega arith) (s .ensures) (c .if2 .taken)
+    slot-fails _ _ _ _ _ _ (h .ensures) (c .before .before .before .before .before .before .before .if1 .left) _ (c .before .before .if2 .taken) (s .ensures) (c .if3 .taken)
 
-next-slot-requires : tie.Need-next-slot-requires Inv-loop μ-loop
-next-slot-requires c κs = search needs
+add-skip-closed : tie.Need-add-skip-closed Inv-loop μ-loop
+add-skip-closed c = search needs
+
+skip-closed-requires-2 : tie.Need-skip-closed-requires-2 Inv-loop μ-loop
+skip-closed-requires-2 c κs = search needs
 
 loop-less : tie.Need-loop-less Inv-loop μ-loop
-loop-less c = let r = c .next-slot .ensures in omega (arith, r .onward)
+loop-less c =
+    let r = c .before .before .before .before .skip-well .ensures in
+    omega (arith, r .run .onward, c .skip-closed2 .ensures .onward)
 
 loop-again : tie.Need-loop-again Inv-loop μ-loop
 loop-again c =
-    let a = c .before .before .before .before .before .before .before .before .before .before .args in
-    let l = c .before .before .before .before .loop in
+    let l = c .before .before .before .before .before .before .loop in
+    let r = c .before .before .before .before .skip-well .ensures in
     let s = c .before .before .slot-checks in
-    let r = c .next-slot .ensures in
-    (r .inside, run-passes (a .n) (a .c) (a .words .now) (a .bytes .now) (l .i + 1) _ (all-here (slotChecks (a .n) (a .c) (a .words .now) (a .bytes .now)) (l .i) (l .inv .1) (sym (s .ensures) ∙ not-false (s .result) (c .before .if2 .left))) r)
+    let z = c .skip-closed2 .ensures in
+    (z .inside, closed-pass _ _ _ _ _ _ (all-here _ _ (run-passes _ _ _ _ _ _ (l .inv .1) (r .run)) (sym (s .ensures) ∙ not-false _ (c .before .if3 .left))) z)
+
+loop-less-2 : tie.Need-loop-less-2 Inv-loop μ-loop
+loop-less-2 c = let r = c .before .skip-well .ensures in omega (arith, r .run .onward)
+
+loop-again-2 : tie.Need-loop-again-2 Inv-loop μ-loop
+loop-again-2 c =
+    let l = c .before .before .before .loop in
+    let r = c .before .skip-well .ensures in
+    (r .run .inside, run-passes _ _ _ _ _ _ (l .inv .1) (r .run))
 
 returns-3 : tie.Need-returns-3 Inv-loop μ-loop
 returns-3 c =
-    let a = c .before .before .before .before .before .before .before .args in
     let h = c .before .before .before .before .header-well in
     let l = c .before .loop in
-    slots-pass (a .n) (a .c) (a .words .now) (a .bytes .now) (l .i) (h .result) (h .ensures) (c .before .before .before .if1 .left) (omega arith) (l .inv .1)
+    slots-pass _ _ _ _ _ _ (h .ensures) (c .before .before .before .if1 .left) (omega arith) (l .inv .1)
 
 pub well-formed-spec : {M : Type 1} → statement M
 well-formed-spec =
@@ -72,9 +87,13 @@ well-formed-spec =
     returns
     skip-closed-requires
     loop-holds
+    skip-well-requires
     slot-checks-requires
     returns-2
-    next-slot-requires
+    add-skip-closed
+    skip-closed-requires-2
     loop-less
     loop-again
+    loop-less-2
+    loop-again-2
     returns-3)
