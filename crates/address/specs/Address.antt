@@ -1,6 +1,6 @@
 -- Document 01, "Addresses and control bytes", first paragraph: bytes 0 and 1 of an address hold its family, and its path stands behind them.
 use mathlib.Core.Path.{_≡_}
-use mathlib.Core.Bool.{Bool, true, false, cond}
+use mathlib.Core.Bool.{cond}
 use mathlib.Core.List.{List, [], _∷_, _++_}
 use Prim.Native.Nat.{ℕ, _+_, _-_, _≤_}
 use lib.Dec.{ltb, eqb}

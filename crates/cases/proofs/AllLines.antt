@@ -1,5 +1,4 @@
 -- The lines of document 01, "to be proved": the calls (C = 8), the control bytes and the addresses, as one table under one theorem.
-use mathlib.Core.Path.{_≡_}
 use mathlib.Core.List.{List, [], _∷_, _++_, map}
 use Rattle.laws.specs.All.{All}
 use Rattle.rules.proofs.Lines as calls

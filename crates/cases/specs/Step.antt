@@ -1,6 +1,5 @@
 -- A call on lent storage, and what the promise allows it to do. Nothing here knows how a call is made.
 use Prim.Native.Nat.{ℕ}
-use mathlib.Core.Path.{_≡_}
 use mathlib.Core.List.{List}
 use Rattle.rules.specs.Outcome.{Call, Outcome}
 use Rattle.storage.specs.Rows.{Store}

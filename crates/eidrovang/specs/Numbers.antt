@@ -5,7 +5,6 @@ use Prim.Native.Nat.{ℕ}
 use lib.IntN.{ℤ, pos}
 use lib.ListN.{length, take, drop}
 use Rattle.words.specs.Numbers.{numberOf, refusalOf, answerNo, answerValue}
-use Rattle.words.specs.declared.Errno.{Errno}
 use Rattle.words.specs.declared.Errno.the-variants.{EINVAL}
 use Rattle.words.specs.declared.Verdict.{Verdict}
 use Rattle.words.specs.declared.Answer.{Answer}

@@ -27,7 +27,7 @@ use Rattle.ring.specs.Ring.{placeOf, queued}
 use Rattle.storage.specs.Layout.{part, tokensBase, placesBase}
 use Rattle.storage.specs.Cells.{cellAt, stateOf, storeAt, cellOf}
 use Rattle.storage.specs.Rows.{Store, Row, rowAt, rows, lent, withCell, Roomy, Around}
-use Rattle.storage.specs.View.{view, show, showIn}
+use Rattle.storage.specs.View.{view, showIn}
 use Rattle.storage.specs.Finding.{openIn, occupied}
 use Rattle.storage.specs.declared.Cell.{Cell}
 use Rattle.storage.specs.declared.State.{State}
@@ -101,10 +101,6 @@ module _ (n c : ℕ) (s : Store) (f : Roomy n c s) (x g : ℕ) (hx : slotOf x < 
   left-around = store-around n c (s .words) (s .bytes) (s .tokens) f (slotOf x) hx (cellOf g Closed)
 
 -- ── When all have closed ──
-
-closed-shown : (r : Row) (g : ℕ) → show (withCell (cellOf g Closed) r) ≡ closed g
-unfolding showIn
-closed-shown r g = ap (λ (σ : State). showIn (withCell (cellOf g Closed) r) (cellOf g Closed .generation) σ) (back g Closed) ∙ ap closed (back-gen g Closed)
 
 closed-fit : (n c g : ℕ) (r : Row) → Fit n c r (withCell (cellOf g Closed) r)
 unfolding rangesWell hiddenIn hiddenAfter roomAfter showIn cellOf stateOf

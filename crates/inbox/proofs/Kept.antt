@@ -3,26 +3,26 @@ use mathlib.Core.Path.{_≡_, refl, sym, ap, _∙_, subst}
 use mathlib.Core.Logic.{_≢_}
 use mathlib.Core.Bool.{Bool, true, false, cond, _&&_, not}
 use mathlib.Core.List.{List, [], _∷_}
-use Prim.Native.Nat.{ℕ, suc, _+_, _-_, _%_, _^_, _<_, _≤_, min}
+use Prim.Native.Nat.{ℕ, suc, _+_, _-_, _<_, _≤_}
 use native.Mathlib.Omega.{arith}
-use lib.ListN.{length, take, drop, length-take}
+use lib.ListN.{length, take}
 use lib.Dec.{leb, ltb, eqb}
 use borrow.Author.Tests.{ltb-true, leb-true, lt-ltb, le-leb, ne-eqb, leb-false}
 use Rattle.laws.proofs.Tests.{and-left, and-right, and-four}
 use Rattle.ring.specs.Ring.{placeOf}
 use Rattle.ring.proofs.Queued.{place-in}
 use Rattle.ring.proofs.Copying.{place-is}
-use Rattle.rules.specs.Inbox.{isNil, allItems, append, group, moved, rest}
+use Rattle.rules.specs.Inbox.{isNil, allItems, append, group, moved}
 use Rattle.rules.specs.Moving.{Policy}
 use Rattle.rules.proofs.InboxOk.{Rising, InboxOk, append-ok, rest-ok}
-use Rattle.inbox.specs.View.{dist, count, bytesOf, itemsIn, distances, groupsOf, view, front}
+use Rattle.inbox.specs.View.{count, bytesOf, itemsIn, distances, groupsOf, view}
 use Rattle.inbox.specs.Well.{rises, isWell, Well}
-use Rattle.inbox.specs.Promise.{pushNo, MayPush, comeOn, moveOn, none, Pushes, Takes, Discards}
+use Rattle.inbox.specs.Promise.{pushNo, MayPush, comeOn, moveOn, Pushes, Takes, Discards}
 use Rattle.inbox.specs.declared.Inbox.{Inbox}
 use Rattle.inbox.specs.declared.Pushed.{Pushed}
 use Rattle.inbox.specs.declared.Taken.{Taken}
 use Rattle.inbox.specs.declared.Discarded.{Discarded}
-use Rattle.inbox.proofs.Offsets.{dist-come, dist-gone, dist-same}
+use Rattle.inbox.proofs.Offsets.{dist-come, dist-gone}
 use Rattle.inbox.proofs.Groups.{rising, rises-if}
 use Rattle.inbox.proofs.Shows.{length-bytes, length-items, length-distances, items-are-all, taken-le, group-le, no-distances}
 use Rattle.inbox.proofs.Parts.{may-fit}
@@ -56,9 +56,6 @@ pub record InRange (c : ℕ) (q : Inbox) : Type 0 where
 
 pub in-range : {c : ℕ} {places : List ℕ} {q : Inbox} → Well c places q → InRange c q
 in-range w = record { head-in = w .head-in; fits = w .fits; first-in = w .first-in; items-in = w .items-in }
-
-pub none-in : (c : ℕ) → 0 < c → InRange c none
-none-in c h = record { head-in = h; fits = let z = dist-same 0 in omega arith; first-in = omega arith; items-in = omega arith }
 
 pub come-in : (c : ℕ) (q : Inbox) (k m : ℕ) → c ≤ 65536 → InRange c q → count q + k ≤ c → q .items + m ≤ 256 → InRange c (comeOn q k m)
 come-in c q k m hc w hk hm =

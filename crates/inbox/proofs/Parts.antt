@@ -2,7 +2,7 @@
 use mathlib.Core.Path.{_≡_, refl, sym, ap, ap₂, _∙_}
 use mathlib.Core.Logic.{_≢_, _⊎_, inl, inr}
 use mathlib.Core.Bool.{Bool, true, false, cond, _&&_}
-use mathlib.Core.List.{List, [], _∷_, _++_, map}
+use mathlib.Core.List.{List, [], _∷_, _++_}
 use Prim.Native.Nat.{ℕ, zero, suc, _+_, _-_, _%_, _^_, _<_, _≤_, min}
 use native.Mathlib.Nat.{not-suc-le-zero}
 use native.Mathlib.Numerals.{add-one}
@@ -17,11 +17,10 @@ use Rattle.ring.proofs.Copying.{place-is}
 use Rattle.laws.proofs.Tests.{less-or}
 use Rattle.rules.specs.Inbox.{group, moved}
 use Rattle.rules.specs.Moving.{handed, released, flagsOf}
-use Rattle.inbox.specs.View.{dist, count, bytesOf, itemsIn, distances, groupsOf, view, front, nearest}
+use Rattle.inbox.specs.View.{dist, count, itemsIn, distances, groupsOf, view, front, nearest}
 use Rattle.inbox.specs.Well.{rises, isWell, Well}
 use Rattle.inbox.specs.Promise.{pushNo, MayPush, comeOn, Pushes, policyOf, Takes, moveOn, handedOf, flagsFor, Hands, Discards}
 use Rattle.inbox.specs.declared.Inbox.{Inbox}
-use Rattle.inbox.specs.declared.Discarded.{Discarded}
 use Rattle.inbox.specs.declared.AttachedItems.{AttachedItems}
 use Rattle.inbox.specs.declared.AttachedItems.the-variants.{Take, Drop}
 use Rattle.inbox.proofs.Offsets.{dist-meets, dist-same, dist-zero}

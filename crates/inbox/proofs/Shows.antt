@@ -1,7 +1,7 @@
 -- What the rings and the numbers show after a push, a take and a discard.
 use mathlib.Core.Path.{_≡_, refl, sym, ap, ap₂, _∙_}
 use mathlib.Core.Logic.{_⊎_, inl, inr}
-use mathlib.Core.Bool.{Bool, true, false, cond}
+use mathlib.Core.Bool.{true, cond}
 use mathlib.Core.List.{List, [], _∷_, _++_, map, map-append, append-nil}
 use Prim.Native.Nat.{ℕ, zero, suc, _+_, _-_, _%_, _^_, _<_, _≤_, min}
 use native.Mathlib.Omega.{arith}
@@ -14,7 +14,7 @@ use Rattle.ring.specs.Ring.{placeOf, queued, whole}
 use Rattle.ring.proofs.Queued.{queued-length, queued-take, queued-drop, pasted}
 use Rattle.ring.proofs.Copying.{place-is, take-replicate}
 use Rattle.rules.specs.Table as model
-use Rattle.rules.specs.Inbox.{nothing, isNil, allItems, append, group, others, upTo, moved, nearer, rest}
+use Rattle.rules.specs.Inbox.{nothing, isNil, allItems, append, group, upTo, moved, nearer, rest}
 use Rattle.inbox.specs.View.{dist, count, bytesOf, itemsIn, distances, groupsOf, view, front, nearest}
 use Rattle.inbox.specs.Well.{rises, Well}
 use Rattle.inbox.specs.Promise.{comeOn, moveOn}

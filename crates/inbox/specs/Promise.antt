@@ -1,13 +1,13 @@
 -- What push, take and discard promise: the answer, the inbox after it as the model has it, its numbers, the rings, and the caller's lists.
-use Prim.Native.Nat.{ℕ, _+_, _-_, _%_, _^_, _<_, _≤_, min}
+use Prim.Native.Nat.{ℕ, _+_, _-_, _%_, _^_, min}
 use mathlib.Core.Path.{_≡_}
 use mathlib.Core.Bool.{cond, _&&_}
-use mathlib.Core.List.{List, [], _∷_}
+use mathlib.Core.List.{List}
 use lib.ListN.{length, take, drop, replicate}
 use lib.Seq.{sets, paste}
 use lib.Dec.{leb, ltb, eqb}
 use Rattle.ring.specs.Ring.{placeOf, whole}
-use Rattle.rules.specs.Inbox.{allItems, append, group, moved, rest}
+use Rattle.rules.specs.Inbox.{append, group, moved, rest}
 use Rattle.rules.specs.Moving.{Policy, handed, released, flagsOf}
 use Rattle.inbox.specs.View.{count, bytesOf, itemsIn, distances, groupsOf, view}
 use Rattle.inbox.specs.declared.Inbox.{Inbox}

@@ -3,12 +3,11 @@
 // rings of 256: its token, and the stream offset of the byte that carries it.
 ghost use mathlib.Core.Path.{_≡_};
 ghost use Prim.Native.Nat.{_+_, _-_, _<_, _≤_, min};
-ghost use mathlib.Core.Bool.{Bool, true, false};
+ghost use mathlib.Core.Bool.{true, false};
 ghost use lib.ListN.{length, drop};
-ghost use lib.Seq.{sets};
 ghost use Rattle.ring.specs.Ring.{queued};
 ghost use Rattle.words.specs.Numbers.{refusalOf};
-ghost use Rattle.inbox.specs.View.{dist, count, bytesOf, itemsIn, distances, front, nearest};
+ghost use Rattle.inbox.specs.View.{dist, count, distances, front, nearest};
 ghost use Rattle.inbox.specs.Well.{rises, isWell, Well};
 ghost use Rattle.inbox.specs.Promise.{none, pushNo, MayPush, Pushes, policyOf, handedOf, flagsFor, Hands, moveOn, Takes, Discards};
 use words::Errno;

@@ -1,4 +1,5 @@
 pub mod Tests
+pub mod Bits
 pub mod Lists
 pub mod Unique
 pub mod Tab

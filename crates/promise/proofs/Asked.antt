@@ -29,9 +29,6 @@ module _ {n c : ℕ} {w b t : List ℕ} {x y : ℕ} (a : Admitted n c (lent w b 
   pub free-in : 8 + 16 * i + 16 ≤ length w
   free-in = slot-in a i (free-found n c (lent w b t) i e ne .within)
 
-  pub free-less : i < n
-  free-less = free-found n c (lent w b t) i e ne .within
-
   module _ (s : Slot) (es : s ≡ record { generation = cellAt w i .generation; state = stateOf (cellAt w i) }) where
     pub next-fits : s .generation + 1 < 2 ^ 64
     next-fits = let z = free-found n c (lent w b t) i e ne .young in let y = ap (λ (q : Slot). q .generation) es in omega arith

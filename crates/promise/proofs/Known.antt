@@ -1,5 +1,5 @@
 -- What is known of an admitted table, and what shows that the storage after a call is as promised.
-use mathlib.Core.Path.{_≡_, refl, sym, ap, ap₂, _∙_, subst}
+use mathlib.Core.Path.{_≡_, refl, sym, ap, _∙_, subst}
 use mathlib.Core.Logic.{_≢_}
 use mathlib.Core.Bool.{true}
 use mathlib.Core.List.{List}
@@ -29,7 +29,6 @@ use Rattle.storage.specs.declared.State.{State}
 use Rattle.storage.specs.declared.State.the-variants.{Closed, Unbound, Bound, Listening, Connected}
 use Rattle.storage.specs.declared.Listener.{Listener}
 use Rattle.storage.specs.declared.Connection.{Connection}
-use Rattle.storage.proofs.Viewed.{seen}
 use Rattle.table.specs.Formed.{headerWell, queueIn, fieldsWell, inboxRange, rangesWell, tied, slotFormed, formed}
 use Rattle.table.specs.Admission.{Admitted}
 use Rattle.table.proofs.Links.{queue-long}
@@ -173,22 +172,3 @@ idle-room room model.State.Unbound = refl
 idle-room room (model.State.Bound m) = refl
 idle-room room (model.State.Listening m b q) = refl
 idle-room room (model.State.Connected p i x y) = refl
-
-pub proper-stays : (n c : ℕ) (s s′ : Store) (o : Outcome) (i : ℕ) → Known n c s → i < n → rowAt n c s′ i ≡ rowAt n c s i → at (o .next) i ≡ at (view n c s) i → Proper n c s s′ o i
-unfolding rowAt
-proper-stays n c s s′ o i k h er es =
-    let ec : cellAt (s′ .words) i ≡ cellAt (s .words) i = ap (λ (x : Row). x .cell) er in
-    let eσ : stateOf (cellAt (s′ .words) i) ≡ stateOf (cellAt (s .words) i) = ap stateOf ec in
-    let here : at (view n c s) i ≡ showIn (rowAt n c s i) (cellAt (s .words) i .generation) (stateOf (cellAt (s .words) i)) = seen n c s i (stateOf (cellAt (s .words) i)) h refl in
-    let m : model.State = showIn (rowAt n c s i) (cellAt (s .words) i .generation) (stateOf (cellAt (s .words) i)) .state in
-    let e₁ : m ≡ at (view n c s) i .state = sym (ap (λ (x : model.Slot). x .state) here) in
-    let e₂ : m ≡ at (o .next) i .state = e₁ ∙ sym (ap (λ (x : model.Slot). x .state) es) in
-    record {
-      fields = ap fieldsWell ec ∙ k .fields i h;
-      ranges = ap (rangesWell n c) eσ ∙ k .ranges i h;
-      numbers =
-          ap hiddenIn eσ ∙ idle n c (rowAt n c s i) (cellAt (s .words) i .generation) (stateOf (cellAt (s .words) i)) (k .ranges i h)
-          ∙ ap₂ (hiddenAfter n c (hiddenIn (stateOf (cellAt (s .words) i)))) e₁ e₂;
-      room =
-          ap (λ (x : Row). x .room) er ∙ idle-room (rowAt n c s i .room) m ∙ ap₂ (roomAfter (rowAt n c s i .room)) e₁ e₂;
-    }

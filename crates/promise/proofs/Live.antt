@@ -19,8 +19,7 @@ use Rattle.storage.specs.Rows.{Store, rowAt}
 use Rattle.storage.specs.View.{view, showIn}
 use Rattle.storage.specs.Finding.{occupied, waiting, openIn, liveIn}
 use Rattle.storage.specs.declared.State.{State}
-use Rattle.storage.specs.declared.State.the-variants.{Closed, Connected}
-use Rattle.storage.specs.declared.Connection.{Connection}
+use Rattle.storage.specs.declared.State.the-variants.{Closed}
 use Rattle.storage.proofs.Viewed.{open-view, live-view, seen}
 
 -- ── The socket of a live handle ──
@@ -51,9 +50,6 @@ live n c s h r e d =
 -- no live socket is closed, and a connected one waits for nothing
 pub not-closed : {A : Type 0} (n c : ℕ) (s : Store) (h : ℕ) → Live n c s h → stateOf (cellAt (s .words) (slotOf h)) ≡ Closed → A
 not-closed n c s h l e = absurd (false≢true (sym (ap occupied e) ∙ l .used))
-
-pub waits-not : (n c : ℕ) (s : Store) (h : ℕ) (k : Connection) → Live n c s h → stateOf (cellAt (s .words) (slotOf h)) ≡ Connected k → k .waits ≡ 0
-waits-not n c s h k l e = eqb-true (k .waits) 0 (not-false (eqb (k .waits) 0) (ap waiting (sym e) ∙ l .given))
 
 -- ── An open handle, pending or not ──
 

@@ -1,14 +1,13 @@
 -- The laws of `queued`.
-use mathlib.Core.Path.{_≡_, refl, sym, ap, _∙_, subst}
+use mathlib.Core.Path.{_≡_, refl, sym, ap, _∙_}
 use mathlib.Core.Logic.{_≢_}
-use mathlib.Core.List.{List, [], _∷_, _++_}
-use Prim.Native.Nat.{ℕ, zero, suc, _+_, _-_, _<_, _≤_}
+use mathlib.Core.List.{List, _++_}
+use Prim.Native.Nat.{ℕ, _+_, _-_, _<_, _≤_}
 use native.Mathlib.Decide.{decLt, ℕ-discrete as decEq}
-use native.Mathlib.Numerals.{add-one}
 use native.Mathlib.Omega.{arith}
 use lib.ListN.{length, take, drop, getD, set, length-append, length-drop, length-set, List·getD-append}
-use lib.Seq.{ext-getD, getD-take, getD-drop, getD-append-add, getD-set-same, getD-set-other, take-take, length-take-le, getD-at, take-all, take-suc, drop-cons, set-at, append-snoc, paste, paste-suc, take-paste}
-use Rattle.ring.specs.Ring.{placeOf, queued, whole}
+use lib.Seq.{ext-getD, getD-take, getD-drop, getD-append-add, getD-set-same, getD-set-other, take-take, length-take-le, paste, take-paste}
+use Rattle.ring.specs.Ring.{queued, whole}
 
 -- p is the place in a ring of c that lies k after its start
 pub record Place (c k p : ℕ) : Type 0 where
@@ -65,10 +64,6 @@ module _ (r : List ℕ) (h : ℕ) (hh : h < length r) where
       let e : i ≡ length (drop h r) + p = simp length-drop (omega (arith, pl .high up)) in
       ap (λ (k : ℕ). getD (drop h r ++ r) k 0) e ∙ getD-append-add (drop h r) r p 0)
 
-  -- all of n
-  pub queued-all : (n : ℕ) → n ≤ length r → take n (queued r h n) ≡ queued r h n
-  queued-all n hn = take-all n (queued r h n) (omega (arith, queued-length n hn))
-
   -- the first k of n
   pub queued-take : (k n : ℕ) → k ≤ n → take k (queued r h n) ≡ queued r h k
   unfolding queued
@@ -118,14 +113,6 @@ queued-drop r h k n p hh hk hn pl =
     getD-drop k (queued r h n) i 0
     ∙ queued-at r h hh n (k + i) (q .0) (omega arith) hn (q .1)
     ∙ sym (queued-at r p hp (n - k) i (q .0) li (omega arith) (place-further (length r) h k i hh (omega arith) pl (q .1))))
-
--- one more element of a ring
-pub queued-more : (r : List ℕ) (h n p : ℕ) → h < length r → n < length r → Place (length r) (h + n) p → queued r h (suc n) ≡ queued r h n ++ (getD r p 0 ∷ [])
-queued-more r h n p hh hn pl =
-    sym (queued-all r h hh (suc n) hn)
-    ∙ take-suc (queued r h (suc n)) n 0 (omega (arith, queued-length r h hh (suc n) hn))
-    ∙ ap (λ (l : List ℕ). l ++ (getD (queued r h (suc n)) n 0 ∷ [])) (queued-take r h hh n (suc n) (omega arith))
-    ∙ ap (λ (x : ℕ). queued r h n ++ (x ∷ [])) (queued-at r h hh (suc n) n p (omega arith) hn pl)
 
 -- what is queued in a ring of c into which k were copied behind n
 pub pasted : (r r′ s : List ℕ) (h n k : ℕ) → length r′ ≡ length r → h < length r → n + k ≤ length r → k ≤ length s

@@ -1,12 +1,12 @@
 -- A copy into a ring by straight runs is the copy behind what is queued.
-use mathlib.Core.Path.{_≡_, refl, sym, ap, _∙_}
-use mathlib.Core.List.{List, [], _∷_, _++_}
-use Prim.Native.Nat.{ℕ, suc, _+_, _-_, _<_, _≤_}
+use mathlib.Core.Path.{_≡_, sym, ap, _∙_}
+use mathlib.Core.List.{List, _++_}
+use Prim.Native.Nat.{ℕ, _+_, _-_, _<_, _≤_}
 use native.Mathlib.Omega.{arith}
-use lib.ListN.{length, take, drop, getD, length-append, length-drop, List·getD-append}
+use lib.ListN.{length, take, drop, getD, length-drop, List·getD-append}
 use lib.Seq.{paste, length-paste, length-paste-head, length-take-le, ext-getD, getD-take, getD-drop, getD-append-add}
-use Rattle.ring.specs.Ring.{queued, whole}
-use Rattle.ring.proofs.Queued.{Place, by-order, place-in, placed, queued-length, queued-at}
+use Rattle.ring.specs.Ring.{whole}
+use Rattle.ring.proofs.Queued.{Place, by-order, placed, queued-length, queued-at}
 
 -- what stands at j after a copy
 module _ (d : List ℕ) (at : ℕ) (s : List ℕ) (n : ℕ) (hd : at + n ≤ length d) (hs : n ≤ length s) (j : ℕ) where

@@ -1,14 +1,12 @@
 -- What a sleeping call looks at, and what it means that a change of the table is told to whoever looks.
 use mathlib.Core.Path.{_≡_, refl, sym, ap, _∙_, subst}
-use mathlib.Core.Logic.{_≢_, _⊎_, inl, inr, ⊎-elim}
-use Prim.Native.Nat.{ℕ, zero, suc, _+_, _*_, _%_, _≤_, _<_}
-use native.Mathlib.Omega.{arith}
-use mathlib.Core.Bool.{Bool, true, false, cond, not, _&&_, _||_, true≢false, false≢true}
-use mathlib.Core.List.{List, [], _∷_, _++_, List·Memᴰ, List·Memᴰ·head, List·Memᴰ·tail, Memᴰ·append-left, Memᴰ·append-right, Memᴰ·cast}
+use mathlib.Core.Logic.{_⊎_, inl, inr, ⊎-elim}
+use Prim.Native.Nat.{ℕ, _≤_}
+use mathlib.Core.Bool.{Bool, true, false}
+use mathlib.Core.List.{List, [], _∷_, List·Memᴰ, List·Memᴰ·head, Memᴰ·append-left, Memᴰ·append-right}
 use lib.ListN.{length}
-use native.Mathlib.Decide.{ℕ-discrete}
 use Rattle.laws.proofs.Tests.{cond-both}
-use Rattle.rules.proofs.Model.{Table, Slot, State, Inbox, slotOf, at, put, isOpen, stateOf, become, give, enter, leave, isNil, same, closeWakes, openOne, closeAll, Closing}
+use Rattle.rules.proofs.Model.{Table, State, Inbox, at, isOpen, stateOf, become, give, enter, leave, isNil, same, closeWakes, openOne, closeAll}
 use Rattle.rules.proofs.Frame.{open-become, open-give, state-become, state-give, open-same, at-leave, enter-open}
 
 -- what one socket's state may show to a sleeper

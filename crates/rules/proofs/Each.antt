@@ -1,18 +1,18 @@
 -- Each call tells whoever looks at what it changes.
 use mathlib.Core.Path.{_≡_, refl, sym, ap, _∙_, subst}
-use mathlib.Core.Logic.{_≢_, _⊎_, inl, inr, ⊎-elim}
-use Prim.Native.Nat.{ℕ, zero, suc, _+_, _*_, _%_, _≤_, _<_}
+use mathlib.Core.Logic.{_⊎_, inl, inr, ⊎-elim}
+use Prim.Native.Nat.{ℕ, _≤_, _<_}
 use native.Mathlib.Omega.{arith}
-use mathlib.Core.Bool.{Bool, true, false, cond, not, _&&_, _||_, true≢false, false≢true}
-use mathlib.Core.List.{List, [], _∷_, _++_, List·Memᴰ, List·Memᴰ·head, List·Memᴰ·tail, Memᴰ·append-left, Memᴰ·append-right}
-use lib.ListN.{length, length-append, getD}
-use lib.Dec.{leb, ltb, eqb, nltb→le}
-use borrow.Author.Tests.{le-leb, leb-true, ltb-false, not-false}
-use Rattle.laws.proofs.Tests.{and-left, and-right, cond-both, or-left, or-right}
-use Rattle.rules.proofs.Model.{Table, Slot, State, Inbox, Call, Outcome, vacant, refuse, refuseIf, answer, slotOf, handle, handleAt, at, put, isOpen, isLive, stateOf, become, give, enter, leave, isNil, same, closeWakes, openOne, closeAll, first, isFree, hasName, holds, holder, noSlot, freeSlot, newHandle, append, rest, moved, nothing, closeEnds, doSocket, doBind, doListen, doAccept, connected, reach, doConnect, drained, drain, send, doSend, doShutdown, doClose, onLive, onName, run}
-use Rattle.rules.proofs.Frame.{open-become, open-used, open-same, state-become, enter-open, live-open, unbound-not-listening, cons-nil}
+use mathlib.Core.Bool.{Bool, true, false, cond, _||_, true≢false, false≢true}
+use mathlib.Core.List.{List, [], _∷_, List·Memᴰ, List·Memᴰ·head, List·Memᴰ·tail}
+use lib.ListN.{length, length-append}
+use lib.Dec.{ltb}
+use borrow.Author.Tests.{ltb-false}
+use Rattle.laws.proofs.Tests.{cond-both}
+use Rattle.rules.proofs.Model.{Table, State, Inbox, Call, Outcome, at, isOpen, stateOf, become, enter, isNil, openOne, freeSlot, newHandle, nothing, closeEnds, connected, drained, doShutdown, doClose, run}
+use Rattle.rules.proofs.Frame.{open-become, open-same, state-become, enter-open, live-open, unbound-not-listening, cons-nil}
 use Rattle.rules.proofs.Walk.{Steps, walk}
-use Rattle.rules.proofs.Calm.{End, Look, Fact, FactL, FactC, FactE, Told, Calm, Fewer, Turn, calm-refl, calm-then, calm-more, calm-become, fewer-become, calm-give, fewer-give, calm-enter, calm-closeAll, openOne-told}
+use Rattle.rules.proofs.Calm.{End, Look, FactL, FactC, Told, Calm, Turn, calm-refl, calm-then, calm-become, fewer-become, calm-give, fewer-give, calm-enter, calm-closeAll, openOne-told}
 
 -- ── changes of state ──
 

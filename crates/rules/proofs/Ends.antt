@@ -1,15 +1,14 @@
 -- A socket's closed outbox equals its open peer's closed inbox, and each inbox is in order: kept by every call.
-use mathlib.Core.Path.{_≡_, refl, sym, ap, ap₂, _∙_, subst}
-use mathlib.Core.Logic.{_≢_, _⊎_, inl, inr, ⊎-elim}
-use mathlib.Core.Option.{Option, none, some}
-use Prim.Native.Nat.{ℕ, zero, suc, _+_, _≤_, _<_}
-use native.Mathlib.Decide.{ℕ-discrete}
+use mathlib.Core.Path.{_≡_, refl, sym, ap, _∙_, subst}
+use mathlib.Core.Logic.{_≢_, ⊎-elim}
+use mathlib.Core.Option.{some}
+use Prim.Native.Nat.{ℕ, suc, _≤_, _<_}
 use native.Mathlib.Omega.{arith}
-use mathlib.Core.Bool.{Bool, true, false, cond, not, _&&_, _||_, true≢false, false≢true}
-use mathlib.Core.List.{List, [], _∷_, _++_}
+use mathlib.Core.Bool.{Bool, true, false, cond, _||_, false≢true}
+use mathlib.Core.List.{List, [], _∷_}
 use lib.ListN.{length}
 use Rattle.laws.proofs.Tests.{cond-both}
-use Rattle.rules.proofs.Model.{Call, Inbox, Outcome, Slot, State, Table, after, allItems, at, become, closeAll, closeEnds, connected, doClose, doShutdown, drained, enter, freeSlot, fresh, give, handle, handleAt, isLive, isOpen, leave, newHandle, nothing, room, run, slotOf, stateOf}
+use Rattle.rules.proofs.Model.{Call, Inbox, State, Table, allItems, at, become, closeAll, closeEnds, connected, doClose, doShutdown, drained, enter, freeSlot, give, handle, isOpen, leave, newHandle, nothing, room, run, slotOf, stateOf}
 use Rattle.rules.proofs.Frame.{live-open, open-become, open-give, state-give, state-become, become-at, open-leave, at-enter, enter-open, unbound-not-listening, none-some, some-inj, slot-handle, open-used}
 use Rattle.rules.proofs.Wf.{peerOf, WellFormed, joined, others-stay, Kin, kin, not-yet}
 use Rattle.rules.proofs.InboxOk.{InboxOk, append-ok, rest-ok}

@@ -1,19 +1,19 @@
 -- A change of one slot, and the slots that it leaves alone.
-use mathlib.Core.Path.{_≡_, refl, sym, ap, ap₂, _∙_, subst}
+use mathlib.Core.Path.{_≡_, refl, sym, ap, ap₂, _∙_}
 use native.Mathlib.Nat.{not-suc-le-zero, le-of-suc-le-suc}
-use mathlib.Core.Option.{Option, none, some}
+use mathlib.Core.Option.{none, some}
 use mathlib.Core.Logic.{_≢_, _⊎_, inl, inr, ⊎-elim}
-use Prim.Native.Nat.{ℕ, zero, suc, _+_, _*_, _%_, _≤_, _<_}
+use Prim.Native.Nat.{ℕ, zero, suc, _≤_, _<_}
 use native.Mathlib.Omega.{arith}
 use native.Mathlib.Decide.{ℕ-discrete, decLt}
-use mathlib.Core.Bool.{Bool, true, false, cond, not, _&&_, _||_, true≢false, false≢true}
-use mathlib.Core.List.{List, [], _∷_, _++_, List·Memᴰ}
-use lib.ListN.{length, getD, set, length-set, List·getD-eq-default}
+use mathlib.Core.Bool.{Bool, true, false, not, _&&_, false≢true}
+use mathlib.Core.List.{List, [], _∷_}
+use lib.ListN.{length, getD, length-set, List·getD-eq-default}
 use lib.Seq.{getD-set-same, getD-set-other, set-out}
-use lib.Dec.{T, leb, ltb, eqb, eqb→eq, eqb-refl, leb→le, le→leb, nleb→lt, nltb→le}
+use lib.Dec.{eqb}
 use borrow.Author.Tests.{eqb-true, eq-eqb, leb-false, ltb-true, not-true}
 use Rattle.laws.proofs.Tests.{and-left, and-right, cond-both}
-use Rattle.rules.proofs.Model.{Call, Table, Slot, State, Inbox, Outcome, vacant, at, put, slotOf, handle, handleAt, isOpen, isLive, stateOf, become, give, enter, leave, refuse, refuseIf, first, isFree, noSlot, freeSlot, holds, holder}
+use Rattle.rules.proofs.Model.{Table, Slot, State, vacant, at, put, slotOf, handle, handleAt, isOpen, isLive, stateOf, become, give, enter, leave, first, isFree, noSlot, freeSlot, holds, holder}
 
 -- slot j after slot i was put
 pub at-put : (t : Table) (i : ℕ) (s : Slot) (j : ℕ) → ((j ≡ i) × (at (put t i s) j ≡ s)) ⊎ (at (put t i s) j ≡ at t j)

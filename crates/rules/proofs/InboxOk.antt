@@ -1,15 +1,15 @@
 -- At most C bytes queued; item groups non-empty, at strictly rising places inside the queued bytes, at most 256 items together: kept by
 -- a write and by a read.
-use mathlib.Core.Path.{_≡_, refl, sym, ap, ap₂, _∙_, subst}
-use Prim.Native.Nat.{ℕ, zero, suc, _+_, _-_, _≤_, _<_, min}
+use mathlib.Core.Path.{_≡_, refl, subst}
+use Prim.Native.Nat.{ℕ, suc, _+_, _-_, _≤_, _<_, min}
 use native.Mathlib.Omega.{arith}
-use mathlib.Core.Bool.{Bool, true, false, cond, not, _&&_, _||_, false≢true, true≢false}
+use mathlib.Core.Bool.{Bool, true, false, not, _&&_, true≢false}
 use mathlib.Core.List.{List, [], _∷_, _++_, map, append-nil}
-use lib.ListN.{length, take, drop, length-append, length-take, length-drop}
+use lib.ListN.{length, take, length-append, length-take, length-drop}
 use lib.Dec.{ltb, eqb}
-use borrow.Author.Tests.{eq-eqb, eqb-true, ltb-false}
+use borrow.Author.Tests.{ltb-false}
 use Rattle.laws.proofs.Tests.{cond-both}
-use Rattle.rules.proofs.Model.{Group, Inbox, isNil, allItems, append, group, others, upTo, moved, nearer, rest}
+use Rattle.rules.proofs.Model.{Group, Inbox, isNil, allItems, append, others, upTo, moved, nearer, rest}
 
 -- places from `low` on and below `len`, rising, and no group empty
 abbrev pub Rising : ℕ → ℕ → List Group → Type 0

@@ -1,19 +1,17 @@
 -- Each pending server is in one queue, and a queue holds pending servers: kept by every call.
-use mathlib.Core.Path.{_≡_, refl, sym, ap, ap₂, _∙_, subst}
+use mathlib.Core.Path.{_≡_, refl, sym, ap, _∙_, subst}
 use mathlib.Core.Logic.{_≢_, _⊎_, inl, inr, ⊎-elim}
-use Prim.Native.Nat.{ℕ, zero, suc, _+_, _*_, _%_, _≤_, _<_}
+use Prim.Native.Nat.{ℕ, suc, _+_, _≤_, _<_}
 use native.Mathlib.Omega.{arith}
 use native.Mathlib.Decide.{ℕ-discrete}
-use mathlib.Core.Bool.{Bool, true, false, cond, not, _&&_, _||_, true≢false, false≢true}
+use mathlib.Core.Bool.{Bool, true, false, true≢false, false≢true}
 use mathlib.Core.List.{List, [], _∷_, _++_, List·Memᴰ, List·Memᴰ·head, List·Memᴰ·tail, List·Memᴰ·cases-cons, List·Memᴰ·append-cases, List·Memᴰ·eq-of-singleton, List·Memᴰ·not-nil, Memᴰ·append-left, Memᴰ·append-right, Memᴰ·cast}
 use lib.ListN.{length}
-use borrow.Author.Tests.{not-false}
-use Rattle.laws.proofs.Tests.{and-left, and-right}
 use Rattle.rules.specs.WellFormed.{isConnected}
-use Rattle.rules.proofs.Model.{Table, Slot, State, Inbox, Call, Outcome, vacant, fresh, after, refuse, refuseIf, answer, slotOf, handle, handleAt, at, put, isOpen, isLive, stateOf, become, give, enter, leave, queued, closeAll, holder, noSlot, freeSlot, newHandle, nothing}
+use Rattle.rules.proofs.Model.{Table, State, slotOf, handle, at, isOpen, stateOf, become, give, enter, leave, queued, closeAll}
 use Rattle.rules.proofs.Frame.{cons-nil}
-use Rattle.rules.proofs.Calm.{Fewer, fewer-closeAll}
-use Rattle.rules.proofs.Frame.{at-put, at-put-same, at-put-other, field-put, in-range, open-by, open-used, open-same, open-become, open-give, at-leave, open-leave, at-enter, enter-open, enter-new, state-become, state-become-same, state-give, become-at, give-at, slots-apart, slot-handle, givenOf, given-enter, given-new}
+use Rattle.rules.proofs.Calm.{fewer-closeAll}
+use Rattle.rules.proofs.Frame.{at-put-same, at-put-other, field-put, in-range, open-by, open-used, open-same, open-become, open-give, open-leave, at-enter, enter-open, enter-new, state-become, state-become-same, state-give, become-at, give-at, slot-handle, givenOf, given-enter, given-new}
 
 abbrev pub In : ℕ → State → Type 0
 In s σ = List·Memᴰ s (queued σ)

@@ -1,12 +1,12 @@
 -- Every call keeps `Queues`: the walk of `run`, with a line for each accepted outcome.
-use mathlib.Core.Path.{_≡_, refl, sym, ap, _∙_, subst}
-use Prim.Native.Nat.{ℕ, _≤_, _<_}
-use mathlib.Core.Bool.{Bool, true, false, cond, not, _&&_, _||_, false≢true, true≢false}
-use mathlib.Core.List.{List, [], _∷_, _++_, List·Memᴰ}
-use lib.ListN.{length, replicate}
+use mathlib.Core.Path.{_≡_, refl}
+use Prim.Native.Nat.{ℕ, _≤_}
+use mathlib.Core.Bool.{Bool, true, false, cond, _||_}
+use mathlib.Core.List.{List, [], _∷_, _++_}
+use lib.ListN.{length}
 use Rattle.laws.proofs.Tests.{and-right, cond-both}
 use Rattle.rules.specs.WellFormed.{isConnected}
-use Rattle.rules.proofs.Model.{Table, Slot, State, Inbox, Call, Outcome, fresh, after, slotOf, at, isOpen, isLive, stateOf, become, connected, newHandle, freeSlot, drained, doShutdown, doClose, closeEnds, queued, nothing, run}
+use Rattle.rules.proofs.Model.{Table, State, Call, Outcome, fresh, after, isOpen, isLive, become, connected, newHandle, freeSlot, drained, doShutdown, doClose, closeEnds, queued, nothing, run}
 use Rattle.rules.proofs.Frame.{live-open, givenOf}
 use Rattle.rules.proofs.Wf.{WellFormed}
 use Rattle.rules.proofs.WfRun.{kept-run, none-open, wf-fresh}

@@ -1,13 +1,13 @@
 -- What holds of each slot by itself: its generation, a closed slot's emptiness, a name's length, a peer's generation. Kept by every call.
-use mathlib.Core.Path.{_≡_, refl, sym, ap, _∙_, subst}
-use mathlib.Core.Logic.{_⊎_, inl, inr, ⊎-elim}
-use Prim.Native.Nat.{ℕ, zero, suc, _+_, _*_, _/_, _%_, _≤_, _<_}
+use mathlib.Core.Path.{_≡_, refl, sym, _∙_, subst}
+use mathlib.Core.Logic.{⊎-elim}
+use Prim.Native.Nat.{ℕ, _/_, _≤_, _<_}
 use native.Mathlib.Omega.{arith}
-use mathlib.Core.Bool.{Bool, true, false, cond, not, _&&_, _||_, true≢false, false≢true}
-use mathlib.Core.List.{List, [], _∷_, _++_, List·Memᴰ·head}
-use lib.ListN.{length, replicate}
+use mathlib.Core.Bool.{Bool, true, false, cond, _||_, true≢false, false≢true}
+use mathlib.Core.List.{List, [], _∷_, List·Memᴰ·head}
+use lib.ListN.{length}
 use Rattle.laws.proofs.Tests.{cond-both}
-use Rattle.rules.proofs.Model.{Table, Slot, State, Inbox, Call, Outcome, Policy, closed, vacant, fresh, after, answer, at, put, handle, slotOf, handleAt, isOpen, isLive, stateOf, become, give, enter, leave, isNil, connected, newHandle, freeSlot, drained, closeEnds, doShutdown, doClose, closeAll, queued, nothing, run}
+use Rattle.rules.proofs.Model.{Table, Slot, State, Inbox, Call, closed, fresh, at, put, slotOf, isOpen, stateOf, become, give, enter, leave, isNil, connected, newHandle, freeSlot, drained, closeEnds, doShutdown, doClose, closeAll, queued, nothing, run}
 use Rattle.rules.proofs.Frame.{at-put, open-used, open-handle, live-open, open-become, enter-open}
 use Rattle.rules.proofs.Walk.{Steps, walk}
 use Rattle.rules.proofs.Queues.{Queues}

@@ -1,11 +1,11 @@
 -- No call changes the number of slots or the capacity.
 use mathlib.Core.Path.{_≡_, refl, _∙_}
 use Prim.Native.Nat.{ℕ, _≤_}
-use mathlib.Core.Bool.{Bool, true, false, cond, _||_}
+use mathlib.Core.Bool.{Bool, true, false}
 use mathlib.Core.List.{List, [], _∷_}
 use lib.ListN.{length, length-set}
 use Rattle.laws.proofs.Tests.{cond-both}
-use Rattle.rules.proofs.Model.{Table, Slot, State, Call, Outcome, put, isOpen, become, give, enter, leave, connected, drained, doShutdown, closeAll, doClose, run}
+use Rattle.rules.proofs.Model.{Table, Slot, State, Call, put, isOpen, become, give, enter, leave, connected, drained, doShutdown, closeAll, doClose, run}
 use Rattle.rules.proofs.Walk.{Steps, walk}
 
 pub record Sized (t u : Table) : Type 0 where

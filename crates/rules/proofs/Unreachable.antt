@@ -1,13 +1,12 @@
 -- The arms of the rules that only a damaged table could reach: an open peer that is not connected. On a well-formed table no call comes there, so `run`
 -- never answers 19; that number is admission's alone.
-use mathlib.Core.Path.{_≡_, refl, sym, ap, _∙_, subst}
+use mathlib.Core.Path.{_≡_, refl}
 use mathlib.Core.Logic.{_≢_}
-use mathlib.Core.Option.{Option, none, some}
+use mathlib.Core.Option.{some}
 use Prim.Native.Nat.{ℕ}
 use native.Mathlib.Omega.{arith}
-use mathlib.Core.Bool.{Bool, true, false, cond, not, _&&_, _||_}
+use mathlib.Core.Bool.{Bool, true, false, not, _||_}
 use mathlib.Core.List.{List, [], _∷_}
-use lib.Dec.{T, eqb}
 use lib.IntN.{ℤ}
 use borrow.Author.Tests.{not-false}
 use Rattle.laws.proofs.Tests.{or-right, cond-both}
@@ -15,7 +14,6 @@ use Rattle.rules.specs.WellFormed.{isConnected, wellFormed}
 use Rattle.rules.proofs.Model.{Table, State, Call, Outcome, Policy, refuse, refuseIf, handleAt, at, holder, isOpen, isLive, stateOf, isNil, doSocket, doBind, doListen, doAccept, reach, doConnect, drained, drain, send, doSend, doShutdown, doClose, onLive, onName, run}
 use Rattle.rules.proofs.Frame.{none-some, live-open}
 use Rattle.rules.proofs.Wf.{peerOf, WellFormed}
-use Rattle.rules.proofs.Formed.{Formed}
 use Rattle.rules.proofs.YesNo.{agree}
 
 peer-conn : (σ : State) (g : ℕ) → peerOf σ ≡ some g → isConnected σ ≡ true

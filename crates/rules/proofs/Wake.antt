@@ -1,25 +1,25 @@
 -- Demand 3, proved: no lost wake-up.
-use mathlib.Core.Path.{_≡_, refl, sym, ap, ap₂, _∙_, subst}
+use mathlib.Core.Path.{_≡_, refl, sym, ap, _∙_, subst}
 use mathlib.Core.Logic.{_≢_, _⊎_, inl, inr, ⊎-elim}
-use mathlib.Core.Option.{Option, none, some}
-use Prim.Native.Nat.{ℕ, zero, suc, _+_, _*_, _%_, _≤_, _<_}
+use mathlib.Core.Option.{some}
+use Prim.Native.Nat.{ℕ, _≤_}
 use native.Mathlib.Omega.{arith}
-use mathlib.Core.Bool.{Bool, true, false, cond, not, _&&_, _||_, true≢false, false≢true}
-use mathlib.Core.List.{List, [], _∷_, _++_, List·Memᴰ}
+use mathlib.Core.Bool.{Bool, true, false, not, _||_, true≢false, false≢true}
+use mathlib.Core.List.{List, [], _∷_, List·Memᴰ}
 use lib.ListN.{length}
 use lib.IntN.{ℤ}
-use lib.Dec.{leb, ltb, eqb}
+use lib.Dec.{ltb, eqb}
 use borrow.Author.Tests.{le-leb, leb-true, not-false}
 use Rattle.laws.proofs.Tests.{and-left, and-right, cond-both, or-left, or-right}
-use Rattle.rules.proofs.Model.{Call, Inbox, Outcome, Policy, Slot, State, Table, after, allItems, answer, at, doAccept, doBind, doClose, doConnect, doListen, doSend, doShutdown, doSocket, drain, drained, fresh, handle, handleAt, hasName, holder, holds, inRange, isFull, isLive, isNil, isOpen, noSlot, onLive, onName, reach, refuse, refuseIf, run, same, send, slotOf, stateOf, vacant}
-use Rattle.rules.proofs.Frame.{live-open, open-same, open-used, open-handle, open-at, first-found}
-use Rattle.rules.proofs.Calm.{End, Look, Fact, FactL, FactC, FactE, Told, Gone, Shows, key, Calm}
-use Rattle.rules.proofs.Each.{Good, calm-run}
-use Rattle.rules.proofs.Frame.{found-used, unbound-not-listening, cons-nil, none-some, some-inj}
-use Rattle.rules.proofs.Wf.{peerOf, nameOf, WellFormed, has-name, name-has, found}
+use Rattle.rules.proofs.Model.{Call, Outcome, Policy, Slot, State, Table, after, answer, at, doAccept, doBind, doClose, doConnect, doListen, doSend, doShutdown, doSocket, drain, drained, fresh, handleAt, hasName, holder, holds, isFull, isLive, isNil, isOpen, onLive, onName, reach, refuse, refuseIf, run, send, slotOf, stateOf, vacant}
+use Rattle.rules.proofs.Frame.{live-open, open-at, first-found}
+use Rattle.rules.proofs.Calm.{End, Look, Fact, Gone, Shows, key, Calm}
+use Rattle.rules.proofs.Each.{calm-run}
+use Rattle.rules.proofs.Frame.{cons-nil, none-some, some-inj}
+use Rattle.rules.proofs.Wf.{peerOf, nameOf, WellFormed, has-name, found}
 use Rattle.rules.proofs.Formed.{few}
 use Rattle.rules.proofs.WfRun.{kept-run, wf-fresh, wf-after}
-use Rattle.rules.specs.Demand.{Blocks, caller, ifConnect, sleepsOn, Still, NoLostWake, Asleep, Demand3}
+use Rattle.rules.specs.Demand.{Blocks, NoLostWake, Asleep, Demand3}
 
 -- an outcome that is EAGAIN
 record Again (o : Outcome) : Type 0 where

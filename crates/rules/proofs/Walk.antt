@@ -1,17 +1,16 @@
 -- One case analysis of `run`, for every fact that is proved of all calls: what holds of a refusal and of each accepted outcome holds of every
 -- call.
 use mathlib.Core.Path.{_≡_, refl, sym, ap, _∙_}
-use mathlib.Core.Logic.{_≢_, _⊎_, inl, inr, ⊎-elim}
-use Prim.Native.Nat.{ℕ, zero, suc, _+_, _-_, _≤_, _<_, min}
+use Prim.Native.Nat.{ℕ, _+_, _≤_, _<_, min}
 use mathlib.Core.Bool.{Bool, true, false, cond, not, _&&_, _||_}
-use mathlib.Core.List.{List, [], _∷_, _++_}
+use mathlib.Core.List.{List, [], _∷_}
 use lib.ListN.{length, take}
 use lib.Dec.{ltb}
 use lib.IntN.{ℤ}
 use borrow.Author.Tests.{leb-false, ltb-false, not-false}
-use Rattle.laws.proofs.Tests.{or-left, or-right}
+use Rattle.laws.proofs.Tests.{or-right}
 use Rattle.rules.proofs.Model.{Table, State, Inbox, Call, Outcome, Policy, refuse, refuseIf, answer, at, handleAt, isOpen, isLive, stateOf, become, give, enter, isNil, allItems, append, room, isFull, holds, holder, noSlot, freeSlot, newHandle, ready, connected, reach, drained, drain, send, doSocket, doBind, doListen, doAccept, doConnect, doSend, doShutdown, doClose, onLive, onName, run}
-use Rattle.rules.proofs.Frame.{live-open, open-at, found-used, unbound-not-listening, free-unused, free-young}
+use Rattle.rules.proofs.Frame.{open-at, found-used, unbound-not-listening, free-unused, free-young}
 
 -- P of each outcome, with what is known where the call comes to it
 pub record Steps (t : Table) (P : Outcome → Type 0) : Type 0 where

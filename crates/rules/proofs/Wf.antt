@@ -1,18 +1,17 @@
 -- What every reachable table has, as far as demand 3 needs it, and that each call keeps it.
-use mathlib.Core.Path.{_≡_, refl, sym, ap, ap₂, _∙_, subst}
+use mathlib.Core.Path.{_≡_, refl, sym, ap, ap₂, _∙_}
 use mathlib.Core.Logic.{_≢_, _⊎_, inl, inr, ⊎-elim}
 use mathlib.Core.Option.{Option, none, some}
-use Prim.Native.Nat.{ℕ, zero, suc, _+_, _*_, _%_, _≤_, _<_}
+use Prim.Native.Nat.{ℕ, suc, _≤_, _<_}
 use native.Mathlib.Omega.{arith}
-use native.Mathlib.Decide.{ℕ-discrete}
-use mathlib.Core.Bool.{Bool, true, false, cond, not, _&&_, _||_, true≢false, false≢true}
-use mathlib.Core.List.{List, [], _∷_, _++_}
-use lib.ListN.{length, length-set, getD, replicate, length-replicate}
-use lib.Dec.{leb, ltb, eqb}
-use borrow.Author.Tests.{eq-eqb, eqb-true, not-false}
-use Rattle.laws.proofs.Tests.{and-left, and-right, cond-both, or-left, or-right}
-use Rattle.rules.proofs.Model.{Table, Slot, State, Inbox, Call, Outcome, vacant, fresh, after, refuse, refuseIf, answer, slotOf, handle, handleAt, at, put, isOpen, isLive, stateOf, become, give, enter, leave, isNil, same, closeWakes, openOne, closeAll, first, isFree, hasName, holds, holder, noSlot, freeSlot, newHandle, append, rest, moved, nothing, closeEnds, doSocket, doBind, doListen, doAccept, connected, reach, doConnect, drained, drain, send, doSend, doShutdown, doClose, onLive, onName, run}
-use Rattle.rules.proofs.Frame.{field-put, at-put, open-become, open-give, open-used, open-handle, open-same, open-leave, state-become, state-give, enter-open, live-open, open-at, first-found, first-least, in-range, at-put-same, at-put-other, slot-handle, size-become, gen-become, size-enter, at-enter, gen-enter, enter-new, state-become-same, some-inj, none-some}
+use mathlib.Core.Bool.{true, false, false≢true}
+use mathlib.Core.List.{List, [], _∷_}
+use lib.ListN.{length, length-set}
+use lib.Dec.{eqb}
+use borrow.Author.Tests.{eq-eqb, eqb-true}
+use Rattle.laws.proofs.Tests.{and-left, and-right}
+use Rattle.rules.proofs.Model.{Table, State, slotOf, handle, handleAt, at, isOpen, stateOf, become, give, enter, leave, same, closeAll, hasName, holds, holder, nothing}
+use Rattle.rules.proofs.Frame.{field-put, open-become, open-give, open-used, open-handle, open-same, open-leave, state-become, enter-open, first-least, slot-handle, size-become, gen-become, size-enter, at-enter, gen-enter, enter-new, state-become-same, some-inj, none-some}
 
 -- the peer, and the name, of a state
 unfoldable pub peerOf : State → Option ℕ

@@ -1,20 +1,15 @@
 -- Each call keeps a table well-formed, and a fresh table is.
-use mathlib.Core.Path.{_≡_, refl, sym, ap, ap₂, _∙_, subst}
-use mathlib.Core.Logic.{_≢_, _⊎_, inl, inr, ⊎-elim}
-use mathlib.Core.Option.{Option, none, some}
-use Prim.Native.Nat.{ℕ, zero, suc, _+_, _*_, _%_, _≤_, _<_}
-use native.Mathlib.Omega.{arith}
-use mathlib.Core.Bool.{Bool, true, false, cond, not, _&&_, _||_, true≢false, false≢true}
-use mathlib.Core.List.{List, [], _∷_, _++_}
+use mathlib.Core.Path.{_≡_, refl, sym, ap, _∙_}
+use Prim.Native.Nat.{ℕ, zero, suc, _≤_, _<_}
+use mathlib.Core.Bool.{Bool, true, false, cond, _||_, false≢true}
+use mathlib.Core.List.{List, [], _∷_}
 use lib.ListN.{length, getD, replicate, length-replicate}
-use lib.Dec.{leb, ltb, eqb}
-use borrow.Author.Tests.{leb-false, not-false}
-use Rattle.laws.proofs.Tests.{cond-both, or-right}
-use Rattle.rules.proofs.Model.{Table, Slot, State, Inbox, Call, Outcome, vacant, fresh, after, refuse, refuseIf, answer, slotOf, handle, handleAt, at, put, isOpen, isLive, stateOf, become, give, enter, leave, isNil, openOne, closeAll, first, holds, holder, noSlot, freeSlot, newHandle, append, rest, moved, nothing, closeEnds, doSocket, doBind, doListen, doAccept, connected, reach, doConnect, drained, drain, send, doSend, doShutdown, doClose, onLive, onName, run}
-use Rattle.rules.proofs.Frame.{live-open, open-become, open-same, open-used, open-at, state-become, state-become-same, enter-open}
+use Rattle.laws.proofs.Tests.{cond-both}
+use Rattle.rules.proofs.Model.{Table, State, Call, vacant, fresh, after, slotOf, at, isOpen, stateOf, become, freeSlot, newHandle, nothing, closeEnds, connected, drained, doShutdown, doClose, run}
+use Rattle.rules.proofs.Frame.{live-open, open-used}
 use Rattle.rules.proofs.Frame.{unbound-not-listening}
 use Rattle.rules.proofs.Walk.{Steps, walk}
-use Rattle.rules.proofs.Wf.{peerOf, nameOf, WellFormed, Steady, wf-steady, steady-then, steady-refl, steady-become, steady-give, steady-closeAll, wf-bind, wf-enter, joined, wf-joined, others-stay}
+use Rattle.rules.proofs.Wf.{peerOf, nameOf, WellFormed, Steady, wf-steady, steady-then, steady-become, steady-give, steady-closeAll, wf-bind, wf-enter, joined, wf-joined, others-stay}
 
 ends-peer : (a b : Bool) (σ : State) → peerOf (closeEnds a b σ) ≡ peerOf σ
 unfolding closeEnds peerOf

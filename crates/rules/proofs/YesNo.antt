@@ -1,26 +1,25 @@
 -- The yes-or-no definition `wellFormed` says what the record `Formed` says, both ways. So it is kept by every call, and true of every table that is
 -- reached from a fresh one.
 use mathlib.Core.Path.{_≡_, refl, sym, ap, _∙_, subst}
-use mathlib.Core.Logic.{_≢_, _⊎_, inl, inr, ⊎-elim, _↔_}
-use mathlib.Core.Option.{Option, none, some}
-use Prim.Native.Nat.{ℕ, zero, suc, _+_, _*_, _/_, _%_, _≤_, _<_}
+use mathlib.Core.Logic.{_≢_, ⊎-elim, _↔_}
+use mathlib.Core.Option.{some}
+use Prim.Native.Nat.{ℕ, zero, suc, _/_, _≤_, _<_}
 use native.Mathlib.Nat.{not-suc-le-zero}
 use native.Mathlib.Omega.{arith}
 use native.Mathlib.Decide.{ℕ-discrete}
-use mathlib.Core.Bool.{Bool, true, false, cond, not, _&&_, _||_, true≢false, false≢true, Bool·beq}
+use mathlib.Core.Bool.{Bool, true, false, cond, not, _&&_, _||_, false≢true, Bool·beq}
 use mathlib.Core.List.{List, [], _∷_, List·Memᴰ, List·Memᴰ·head, List·Memᴰ·tail, List·Memᴰ·cases-cons, List·Memᴰ·not-nil}
 use lib.ListN.{length, List·getD-eq-default}
 use lib.Dec.{leb, ltb, eqb}
-use borrow.Author.Tests.{eq-eqb, ne-eqb, eqb-true, eqb-false, le-leb, leb-true, lt-ltb, ltb-true, not-true, not-false}
+use borrow.Author.Tests.{eq-eqb, ne-eqb, eqb-true, eqb-false, le-leb, leb-true, lt-ltb, ltb-true, not-true}
 use Rattle.laws.proofs.Tests.{and-left, and-right, and-three, and-four, less-or}
-use Rattle.rules.specs.WellFormed.{every, each, implies, alone, namedWell, pointsAt, linkedWell, rising, inboxWell, isConnected, isPending, count, queuedIn, pendingWell, stateWell, isUnbound, slotWell, wellFormed}
-use Rattle.rules.proofs.Model.{Table, Slot, State, Inbox, Group, Call, closed, vacant, fresh, after, handle, slotOf, handleAt, at, isOpen, stateOf, hasName, holds, isNil, allItems, queued, inRange, run}
+use Rattle.rules.specs.WellFormed.{every, each, implies, alone, namedWell, pointsAt, linkedWell, rising, inboxWell, isPending, queuedIn, pendingWell, stateWell, isUnbound, slotWell, wellFormed}
+use Rattle.rules.proofs.Model.{Table, Slot, State, Inbox, Group, Call, vacant, fresh, after, slotOf, handleAt, at, isOpen, stateOf, holds, isNil, queued, inRange, run}
 use Rattle.rules.proofs.Frame.{open-used, open-handle, open-same, open-at, in-range, none-some, some-inj, givenOf}
 use Rattle.rules.proofs.Wf.{peerOf, nameOf, WellFormed, has-name, name-has}
 use Rattle.rules.proofs.Ends.{Ends, Inboxes, StateOk, inOf, outOf}
 use Rattle.rules.proofs.InboxOk.{InboxOk, Rising}
-use Rattle.rules.proofs.Queues.{Queues, Pending, Owner, In, Once}
-use Rattle.rules.proofs.QueuesRun.{Sound}
+use Rattle.rules.proofs.Queues.{Queues, Pending, In}
 use Rattle.rules.proofs.Shape.{Shape, SlotGood, StateGood, closed-good}
 use Rattle.rules.proofs.Counting.{count-mem, once-count, count-once, slot-below, two-slots, some-slot, one-slot}
 use Rattle.rules.proofs.Formed.{Formed, few, formed-run, formed-fresh, formed-after}
@@ -76,9 +75,6 @@ true-beq a b e = rw e (go b)
     go : (b : Bool) → Bool·beq b b ≡ true
     go true = refl
     go false = refl
-
-not-eqb : (m n : ℕ) → (m ≡ n → ⊥) → not (eqb m n) ≡ true
-not-eqb m n d = rw (ne-eqb m n d)
 
 eqb-not : (m n : ℕ) → not (eqb m n) ≡ true → m ≡ n → ⊥
 eqb-not m n e = eqb-false m n (not-true (eqb m n) e)

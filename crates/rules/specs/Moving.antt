@@ -1,6 +1,6 @@
 -- read, recvmsg, write, sendmsg. Document 01, "One call at a time".
 use Prim.Native.Nat.{ℕ, _+_, _-_, min}
-use mathlib.Core.Bool.{Bool, true, false, cond, not, _&&_, _||_}
+use mathlib.Core.Bool.{Bool, cond, not, _&&_, _||_}
 use mathlib.Core.List.{List, [], _∷_}
 use lib.ListN.{length, take, drop}
 use lib.Dec.{leb, ltb}

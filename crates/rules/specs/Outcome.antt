@@ -1,6 +1,6 @@
 -- What a call is, and what it answers. Document 01, "Numbers a caller may get back".
 use Prim.Native.Nat.{ℕ}
-use mathlib.Core.Bool.{Bool, cond, not}
+use mathlib.Core.Bool.{Bool, cond}
 use mathlib.Core.List.{List, [], _∷_}
 use lib.IntN.{ℤ}
 use Rattle.rules.specs.Table.{Table, isOpen}

@@ -1,6 +1,6 @@
 -- `run t c` is what the table t answers to the call c, and `entry` is the complete answer, with what is asked of N, C and the lent storage first.
 use Prim.Native.Nat.{ℕ}
-use mathlib.Core.Bool.{Bool, true, false, cond, not, _&&_, _||_}
+use mathlib.Core.Bool.{Bool, cond, not, _&&_, _||_}
 use mathlib.Core.List.{List, [], _∷_}
 use lib.IntN.{ℤ}
 use lib.ListN.{length}
@@ -8,7 +8,7 @@ use lib.Dec.{leb, ltb, eqb}
 use Rattle.words.specs.Integers.{equals}
 use Rattle.rules.specs.Table.{Table, isLive, stateOf}
 use Rattle.rules.specs.Inbox.{isNil}
-use Rattle.rules.specs.Outcome.{Call, Outcome, refuse, answer, refuseIf}
+use Rattle.rules.specs.Outcome.{Call, Outcome, answer, refuseIf}
 use Rattle.rules.specs.Connecting.{doSocket, doBind, doListen, doAccept, doConnect}
 use Rattle.rules.specs.Moving.{Policy, drain, doSend}
 use Rattle.rules.specs.Ending.{doShutdown, doClose, ready}

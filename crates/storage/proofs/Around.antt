@@ -1,12 +1,12 @@
 -- A store in a row leaves all that is around the rows.
 use mathlib.Core.Path.{_≡_, refl, sym, ap, _∙_}
-use mathlib.Core.Logic.{_⊎_, inl, inr}
+use mathlib.Core.Logic.{inl}
 use mathlib.Core.List.{List, [], _∷_}
-use Prim.Native.Nat.{ℕ, _+_, _-_, _*_, _≤_, _<_}
+use Prim.Native.Nat.{ℕ, _+_, _-_, _≤_, _<_}
 use native.Mathlib.Omega.{arith}
-use lib.ListN.{length, take, drop, set, length-set}
+use lib.ListN.{length, drop, set}
 use lib.Seq.{paste, length-paste, drop-paste, drop-drop}
-use Rattle.storage.specs.Layout.{part, cellBase, placesBase, queueBase, ringBase, nameBase, tokensBase, sizesOf}
+use Rattle.storage.specs.Layout.{cellBase, placesBase, queueBase, ringBase, nameBase, tokensBase, sizesOf}
 use Rattle.storage.specs.Cells.{storeAt, wordsOf}
 use Rattle.storage.specs.Rows.{Store, lent, Roomy, Around}
 use Rattle.storage.specs.declared.Cell.{Cell}

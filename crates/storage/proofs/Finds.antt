@@ -1,7 +1,7 @@
 -- What the searches and the tests leave at each return.
 use mathlib.Core.Path.{_≡_, refl, sym, ap, ap₂, _∙_}
-use mathlib.Core.Logic.{_≢_, _⊎_, inl, inr}
-use mathlib.Core.Bool.{Bool, true, false, cond, not, _&&_, false≢true}
+use mathlib.Core.Logic.{_⊎_, inl, inr}
+use mathlib.Core.Bool.{Bool, true, false, cond, not, false≢true}
 use mathlib.Core.List.{List, [], _∷_}
 use Prim.Native.Nat.{ℕ, zero, suc, _+_, _-_, _*_, _/_, _%_, _≤_, _<_, min}
 use native.Mathlib.Nat.{not-suc-le-zero}
@@ -17,7 +17,7 @@ use Rattle.rules.specs.Table.{slotOf, handle, same}
 use Rattle.rules.proofs.Wf.{same-refl}
 use Rattle.storage.specs.Layout.{part, cellBase}
 use Rattle.storage.specs.Cells.{cellAt, stateOf, connectionOf}
-use Rattle.storage.specs.Finding.{least, occupied, waiting, openIn, liveIn, freeCell, named, nameLength, holdsCell}
+use Rattle.storage.specs.Finding.{least, occupied, waiting, openIn, liveIn, freeCell, named, holdsCell}
 use Rattle.storage.specs.declared.Cell.{Cell}
 use Rattle.storage.specs.declared.State.{State}
 use Rattle.storage.specs.declared.State.the-variants.{Closed, Unbound, Connected}

@@ -1,7 +1,7 @@
 -- A cell is four times four words.
-use mathlib.Core.Path.{_≡_, refl, ap, _∙_}
+use mathlib.Core.Path.{_≡_, ap, _∙_}
 use mathlib.Core.List.{List}
-use Prim.Native.Nat.{ℕ, _+_, _*_}
+use Prim.Native.Nat.{ℕ, _+_}
 use native.Mathlib.Nat.{add-assoc}
 use Rattle.storage.specs.Layout.{cellBase}
 use Rattle.storage.specs.Cells.{cellAt, storeAt, fourAt, putFour}

@@ -1,15 +1,15 @@
 -- A store in one slot's cells changes one row.
-use mathlib.Core.Path.{_≡_, refl, sym, ap, ap₂, _∙_}
+use mathlib.Core.Path.{_≡_, refl, sym, ap, _∙_}
 use mathlib.Core.Logic.{_≢_, _⊎_, inl, inr}
-use mathlib.Core.List.{List, [], _∷_, _++_, map}
-use Prim.Native.Nat.{ℕ, suc, _+_, _-_, _*_, _≤_, _<_}
+use mathlib.Core.List.{List, [], _∷_}
+use Prim.Native.Nat.{ℕ, _+_, _*_, _≤_, _<_}
 use native.Mathlib.Omega.{arith}
-use lib.ListN.{length, take, drop, getD, set}
-use lib.Seq.{paste, length-paste}
+use lib.ListN.{length, getD, set}
+use lib.Seq.{paste}
 use Rattle.laws.specs.Tab.{tab}
 use Rattle.laws.proofs.Tab.{length-tab, getD-tab, tab-set}
 use Rattle.laws.proofs.Tests.{less-or}
-use Rattle.storage.specs.Layout.{part, cellBase, placesBase, queueBase, ringBase, nameBase, tokensBase, sizesOf}
+use Rattle.storage.specs.Layout.{part, cellBase, placesBase, queueBase, ringBase, nameBase, tokensBase}
 use Rattle.storage.specs.Cells.{cellAt, wordsOf, storeAt}
 use Rattle.storage.specs.Rows.{Store, lent, Row, rowAt, rows, blank, withCell, withPlaces, withQueue, withRing, withRoom, withTokens, Roomy}
 use Rattle.storage.specs.declared.Cell.{Cell}

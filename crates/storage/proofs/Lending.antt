@@ -1,11 +1,11 @@
 -- Parts that are lent, and parts that have come back.
-use mathlib.Core.Path.{_≡_, refl, sym, ap, ap₂, _∙_}
+use mathlib.Core.Path.{_≡_, sym, ap, _∙_}
 use mathlib.Core.Bool.{Bool}
-use mathlib.Core.List.{List, [], _∷_, _++_, append-assoc}
-use Prim.Native.Nat.{ℕ, _+_, _-_, _*_, _≤_, _<_}
+use mathlib.Core.List.{List, _++_, append-assoc}
+use Prim.Native.Nat.{ℕ, _+_, _-_, _≤_, _<_}
 use native.Mathlib.Omega.{arith}
 use lib.ListN.{length, take, drop}
-use lib.Seq.{paste, take-all, drop-drop, length-paste}
+use lib.Seq.{paste, take-all, drop-drop}
 use borrow.Rule.Slice.PartMut.{putMid}
 use Rattle.inbox.specs.Well.{isWell, Well}
 use Rattle.inbox.specs.Promise.{MayPush, Pushes, Takes, Discards}

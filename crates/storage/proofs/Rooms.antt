@@ -1,5 +1,4 @@
 -- Where the three rings of slot i lie: no sum of the code wraps, and each ring is inside what is lent.
-use mathlib.Core.List.{List}
 use Prim.Native.Nat.{ℕ, _+_, _*_, _≤_, _<_}
 use native.Mathlib.Omega.{arith}
 use lib.ListN.{length}

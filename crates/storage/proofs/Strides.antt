@@ -1,5 +1,4 @@
 -- Rows of one length: where they lie, and that two of them lie apart. The lengths are variables, so their products are too.
-use mathlib.Core.Path.{_≡_}
 use Prim.Native.Nat.{ℕ, suc, _+_, _*_, _≤_, _<_}
 use native.Mathlib.Nat.{mul-le-mul-left, mul-le-mul-right, mul-suc}
 use native.Mathlib.Omega.{arith}

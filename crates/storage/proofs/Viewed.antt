@@ -2,23 +2,22 @@
 use mathlib.Core.Path.{_≡_, refl, sym, ap, ap₂, _∙_}
 use mathlib.Core.Bool.{Bool, true, false, cond, not, _&&_, false≢true}
 use mathlib.Core.List.{List, [], _∷_, map}
-use Prim.Native.Nat.{ℕ, zero, suc, _*_, _+_, _≤_, _<_}
+use Prim.Native.Nat.{ℕ, zero, suc, _≤_, _<_}
 use native.Mathlib.Nat.{not-suc-le-zero}
 use native.Mathlib.Omega.{arith}
-use lib.Dec.{eqb, ltb, leb}
+use lib.Dec.{eqb, ltb}
 use lib.ListN.{length, take, getD, set, length-map, List·getD-map}
 use borrow.Author.Tests.{lt-ltb, le-ltb}
 use Rattle.laws.specs.Tab.{tab}
 use Rattle.laws.proofs.Tests.{less-or}
 use mathlib.Core.Logic.{_⊎_, inl, inr}
 use Rattle.rules.specs.Table as model
-use Rattle.rules.specs.Table.{slotOf, handle, handleAt, at, put, vacant, isOpen, isLive, first, isFree, freeSlot, hasName, holds, holder}
+use Rattle.rules.specs.Table.{slotOf, handle, at, put, vacant, isOpen, isLive, first, isFree, freeSlot, hasName, holds, holder}
 use Rattle.storage.specs.Layout.{part, nameBase}
-use Rattle.storage.specs.Cells.{cellAt, stateOf, plainCell}
+use Rattle.storage.specs.Cells.{cellAt, stateOf}
 use Rattle.storage.specs.Rows.{Store, Row, rowAt, rows, blank}
 use Rattle.storage.specs.View.{showIn, show, view}
 use Rattle.storage.specs.Finding.{least, occupied, waiting, openIn, liveIn, freeCell, named, nameLength, holdsCell}
-use Rattle.storage.specs.declared.Cell.{Cell}
 use Rattle.storage.specs.declared.State.{State}
 use Rattle.storage.specs.declared.State.the-variants.{Closed, Unbound, Bound, Listening, Connected}
 use Rattle.storage.proofs.Framing.{length-rows, row-is}

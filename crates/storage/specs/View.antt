@@ -1,7 +1,7 @@
 -- The storage as the table of rules/specs/Table.
 use Prim.Native.Nat.{ℕ}
-use mathlib.Core.Bool.{true, false}
-use mathlib.Core.List.{List, map}
+use mathlib.Core.Bool.{true}
+use mathlib.Core.List.{map}
 use lib.Dec.{eqb}
 use lib.ListN.{take}
 use Rattle.ring.specs.Ring.{queued}

@@ -5,7 +5,7 @@ pub mod names;
 pub mod queues;
 
 ghost use mathlib.Core.Path.{_≡_};
-ghost use Prim.Native.Nat.{_+_, _*_, _≤_, _<_};
+ghost use Prim.Native.Nat.{_+_, _*_, _≤_};
 ghost use lib.ListN.{length};
 ghost use Rattle.storage.specs.Layout.{sizesOf};
 ghost use Rattle.storage.specs.Cells.{fourAt, putFour, cellAt, storeAt, stateOf, cellOf, listenerOf, connectionOf, plainCell, listeningCell, connectedCell, withInbox};

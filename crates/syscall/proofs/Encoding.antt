@@ -2,18 +2,18 @@
 use mathlib.Core.Path.{_≡_, refl, sym, _∙_, ap, ap₂}
 use mathlib.Core.Bool.{Bool, true, false, cond}
 use mathlib.Core.List.{List, [], _∷_, _++_}
-use Prim.Native.Nat.{ℕ, zero, suc, _+_, _-_, _*_, _/_, _%_, _^_, _<_, _≤_, min}
+use Prim.Native.Nat.{ℕ, _+_, _-_, _*_, _/_, _^_, _<_, _≤_, min}
 use native.Mathlib.Omega.{arith}
 use borrow.Author.Tests.{lt-ltb, le-ltb, ltb-false}
 use lib.Dec.{ltb}
 use lib.IntN.{ℤ}
-use lib.ListN.{length, take, drop, length-append}
+use lib.ListN.{length, drop, length-append}
 use lib.Seq.{sets, sets-eq}
 use Rattle.words.specs.declared.Errno.{Errno}
-use Rattle.words.specs.declared.Errno.the-variants.{EINVAL, SHORT}
+use Rattle.words.specs.declared.Errno.the-variants.{SHORT}
 use Rattle.words.specs.declared.Answer.{Answer}
 use Rattle.le.proofs.Widths.{sets-append}
-use Rattle.abi.specs.Size.{up8, exact, rights, rightsOf, rightsSpaceOf}
+use Rattle.abi.specs.Size.{up8, rights, rightsOf, rightsSpaceOf}
 use Rattle.abi.specs.declared.CmsgHdr.{CmsgHdr}
 use Rattle.abi.specs.declared.Made.{Made}
 use Rattle.abi.proofs.Sizes.{up8-is, value, beyond}

@@ -1,8 +1,7 @@
 -- The returns of `parse_scm_rights`.
 use mathlib.Core.Path.{_≡_, refl, sym, _∙_, ap, ap₂}
-use mathlib.Core.Bool.{true, false, cond}
-use mathlib.Core.List.{List, [], _∷_, _++_}
-use Prim.Native.Nat.{ℕ, zero, suc, _+_, _-_, _*_, _/_, _%_, _<_, _≤_}
+use mathlib.Core.List.{List, _∷_, _++_}
+use Prim.Native.Nat.{ℕ, zero, suc, _+_, _-_, _*_, _/_, _<_, _≤_}
 use native.Mathlib.Omega.{arith}
 use borrow.Author.Tests.{eq-eqb, ne-eqb, lt-ltb, le-ltb}
 use lib.IntN.{ℤ}
@@ -11,7 +10,6 @@ use mir.Syntax.{w32}
 use mir.Val.{toZ}
 use Rattle.words.specs.declared.Errno.the-variants.{EINVAL, SHORT}
 use Rattle.words.specs.declared.Answer.{Answer}
-use Rattle.le.specs.Le.{le}
 use Rattle.le.proofs.Widths.{le-part}
 use Rattle.abi.specs.Size.{rightsCountOf}
 use Rattle.abi.specs.declared.CmsgHdr.{CmsgHdr}

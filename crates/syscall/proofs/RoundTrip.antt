@@ -1,11 +1,11 @@
 -- Encoder and decoder: what is encoded is read back, and what is read is encoded the same.
 use mathlib.Core.Path.{_≡_, refl, sym, _∙_, ap, ap₂}
 use mathlib.Core.Bool.{Bool, true, false, cond}
-use mathlib.Core.List.{List, [], _∷_, _++_, append-nil, append-assoc}
+use mathlib.Core.List.{List, [], _∷_, _++_, append-assoc}
 use Prim.Native.Nat.{ℕ, zero, suc, _+_, _-_, _*_, _/_, _%_, _^_, _<_, _≤_, min}
 use native.Mathlib.Omega.{arith}
-use borrow.Author.Tests.{eq-eqb, ne-eqb, lt-ltb, le-ltb, ltb-false, eqb-true}
-use lib.Dec.{ltb, eqb}
+use borrow.Author.Tests.{eq-eqb, ne-eqb, le-ltb, ltb-false, eqb-true}
+use lib.Dec.{ltb}
 use lib.IntN.{ℤ, pos, negsuc}
 use lib.ListN.{length, take, drop, length-append}
 use lib.Seq.{take-append-add, take-add, drop-drop}
@@ -18,9 +18,8 @@ use Rattle.words.specs.declared.Errno.the-variants.{EINVAL}
 use Rattle.words.specs.declared.Answer.{Answer}
 use Rattle.le.specs.Le.{le, bytes}
 use Rattle.le.proofs.Widths.{length-bytes, le-at, AreBytes, le-fits, bytes-le}
-use Rattle.abi.specs.Size.{up8, rights, rightsCountOf, rightsOf}
+use Rattle.abi.specs.Size.{up8, rights, rightsCountOf}
 use Rattle.abi.specs.declared.CmsgHdr.{CmsgHdr}
-use Rattle.abi.specs.declared.Made.{Made}
 use Rattle.abi.specs.declared.Count.{Count}
 use Rattle.abi.proofs.Sizes.{up8-is}
 use Rattle.abi.proofs.Headers.{Counted, count-says}

@@ -7,7 +7,6 @@ use lib.Dec.{ltb}
 use lib.IntN.{ℤ}
 use lib.ListN.{length, drop}
 use Rattle.words.specs.Integers.{equals}
-use Rattle.words.specs.declared.Errno.{Errno}
 use Rattle.words.specs.declared.Errno.the-variants.{EOPNOTSUPP, SHORT}
 use Rattle.words.specs.declared.Answer.{Answer}
 use Rattle.abi.specs.Size.{up8}

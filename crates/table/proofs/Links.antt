@@ -1,27 +1,26 @@
 -- Queue entries and pending servers. Where each entry is of a server that says so, and the table is well-formed, each server stands where it says.
-use mathlib.Core.Path.{_≡_, refl, sym, ap, ap₂, _∙_, subst}
+use mathlib.Core.Path.{_≡_, refl, sym, ap, _∙_, subst}
 use mathlib.Core.Logic.{_≢_, _⊎_, inl, inr}
-use mathlib.Core.Bool.{Bool, true, false, cond, not, _&&_, false≢true, true≢false}
+use mathlib.Core.Bool.{true, false, cond, false≢true}
 use mathlib.Core.List.{List, [], _∷_, List·Memᴰ, List·Memᴰ·head, List·Memᴰ·tail, List·Memᴰ·not-nil}
-use Prim.Native.Nat.{ℕ, zero, suc, _+_, _-_, _*_, _%_, _≤_, _<_}
+use Prim.Native.Nat.{ℕ, zero, suc, _+_, _-_, _≤_, _<_}
 use native.Mathlib.Nat.{not-suc-le-zero}
 use native.Mathlib.Decide.{ℕ-discrete as decEq}
 use native.Mathlib.Omega.{arith}
 use lib.Dec.{leb, ltb, eqb}
 use lib.ListN.{length, getD}
-use borrow.Author.Tests.{lt-ltb, le-ltb, ltb-true, leb-true, le-leb, lt-leb, leb-false, eqb-true, eq-eqb, eqb-false, ne-eqb}
-use Rattle.laws.proofs.Tests.{and-three, and-left, and-right, less-or, cond-both}
+use borrow.Author.Tests.{lt-ltb, ltb-true, le-leb, lt-leb, eqb-true, eq-eqb, ne-eqb}
+use Rattle.laws.proofs.Tests.{and-three, and-left, and-right, less-or}
 use Rattle.ring.specs.Ring.{placeOf, queued}
 use Rattle.ring.proofs.Queued.{Place, place-in, queued-length, queued-at}
 use Rattle.ring.proofs.Copying.{place-is}
 use Rattle.rules.specs.Table as model
 use Rattle.rules.specs.Table.{slotOf, handle, handleAt, at, isOpen}
 use Rattle.rules.specs.Ending as ending
-use Rattle.rules.specs.WellFormed.{every}
 use Rattle.rules.proofs.YesNo.{every-at, at-every}
-use Rattle.rules.proofs.Frame.{in-range, open-at, open-used, open-handle, givenOf}
+use Rattle.rules.proofs.Frame.{in-range, open-at, open-used, givenOf}
 use Rattle.rules.proofs.Formed.{Formed}
-use Rattle.storage.specs.Layout.{part, queueBase}
+use Rattle.storage.specs.Layout.{queueBase}
 use Rattle.storage.specs.Cells.{cellAt, stateOf}
 use Rattle.storage.specs.Rows.{Store, rowAt, Roomy}
 use Rattle.storage.specs.View.{showIn, view}
@@ -29,7 +28,7 @@ use Rattle.storage.specs.declared.State.{State}
 use Rattle.storage.specs.declared.State.the-variants.{Closed, Unbound, Bound, Listening, Connected}
 use Rattle.storage.specs.declared.Listener.{Listener}
 use Rattle.storage.specs.declared.Connection.{Connection}
-use Rattle.storage.proofs.Viewed.{seen, size-view, at-none}
+use Rattle.storage.proofs.Viewed.{seen, size-view}
 use Rattle.storage.proofs.Pasted.{length-part}
 use Rattle.storage.proofs.Strides.{row-before}
 use Rattle.table.specs.Formed.{queueIn, waitsAt, serverWell, ahead, standsAt, tiedState, tied}

@@ -1,16 +1,16 @@
 -- What the pass over the header and the slots leaves at each return.
-use mathlib.Core.Path.{_≡_, refl, sym, ap, subst, _∙_}
+use mathlib.Core.Path.{_≡_, refl, sym, ap, _∙_}
 use mathlib.Core.Logic.{_≢_}
-use mathlib.Core.Bool.{Bool, true, false, cond, not, _&&_}
+use mathlib.Core.Bool.{Bool, true, false, not, _&&_}
 use mathlib.Core.List.{List, []}
 use Prim.Native.Nat.{ℕ, _+_, _-_, _≤_, _<_}
-use native.Mathlib.Decide.{decLt}
-use native.Mathlib.Omega.{arith}
 use lib.Dec.{leb, ltb, eqb}
 use lib.ListN.{getD, take, drop}
 use lib.Seq.{take-take}
+use lib.Bits.{bitOr}
 use borrow.Author.Tests.{le-leb, lt-leb, leb-true, ltb-true, eq-eqb, ne-eqb, not-true, not-false}
-use Rattle.laws.proofs.Tests.{and-left, and-four}
+use Rattle.laws.proofs.Tests.{and-four}
+use Rattle.laws.proofs.Bits.{or-eqb}
 use Rattle.inbox.specs.Well.{isWell}
 use Rattle.rules.specs.Table.{handle}
 use Rattle.rules.specs.WellFormed.{every}
@@ -24,7 +24,7 @@ use Rattle.storage.specs.declared.State.{State}
 use Rattle.storage.specs.declared.State.the-variants.{Closed, Bound, Listening, Connected}
 use Rattle.storage.proofs.Lending.{span}
 use Rattle.table.specs.Formed.{headerWell, fieldsWell, rangesWell, tiedState}
-use Rattle.table.specs.OnePass.{nameChecks, peerChecks, stateChecks, generationWell, slotChecks, ClosedRun}
+use Rattle.table.specs.OnePass.{nameChecks, peerChecks, stateChecks, generationWell, slotChecks}
 use Rattle.table.proofs.OwnNumbers.{fields-closed}
 use Rattle.table.proofs.Conjunctions.{last-of-two, first-of-three, second-of-three, last-of-three, AllBefore, all-done, one-fails}
 
@@ -42,6 +42,29 @@ module _ (n c : ℕ) (w : List ℕ) where
   pub by-zeros : (r : Bool) → getD w 0 0 ≡ n → getD w 1 0 ≡ c → r ≡ every 6 (λ k. eqb (getD w (2 + k) 0) 0) → r ≡ headerWell n c w
   unfolding headerWell
   by-zeros r e d z = z ∙ rw (eq-eqb (getD w 0 0) n e, eq-eqb (getD w 1 0) c d)
+
+pub six-zeros : (w : List ℕ)
+    → eqb (bitOr (bitOr (bitOr (bitOr (bitOr (getD w 2 0) (getD w 3 0)) (getD w 4 0)) (getD w 5 0)) (getD w 6 0)) (getD w 7 0)) 0 ≡ every 6 (λ k. eqb (getD w (2 + k) 0) 0)
+unfolding every
+six-zeros w =
+    rw (or-eqb (bitOr (bitOr (bitOr (bitOr (getD w 2 0) (getD w 3 0)) (getD w 4 0)) (getD w 5 0)) (getD w 6 0)) (getD w 7 0), or-eqb (bitOr (bitOr (bitOr (getD w 2 0) (getD w 3 0)) (getD w 4 0)) (getD w 5 0)) (getD w 6 0), or-eqb (bitOr (bitOr (getD w 2 0) (getD w 3 0)) (getD w 4 0)) (getD w 5 0), or-eqb (bitOr (getD w 2 0) (getD w 3 0)) (getD w 4 0), or-eqb (getD w 2 0) (getD w 3 0))
+    (go (eqb (getD w 2 0) 0) (eqb (getD w 3 0) 0) (eqb (getD w 4 0) 0) (eqb (getD w 5 0) 0) (eqb (getD w 6 0) 0) (eqb (getD w 7 0) 0))
+  where
+    turn : (a b : Bool) → a && b ≡ b && a
+    turn true true = refl
+    turn true false = refl
+    turn false true = refl
+    turn false false = refl
+
+    on : (a : Bool) → a ≡ a && true
+    on true = refl
+    on false = refl
+
+    go : (a b c d e f : Bool) → a && b && c && d && e && f ≡ f && (e && (d && (c && (b && (a && true)))))
+    go a b c d e f =
+        turn (a && b && c && d && e) f ∙ ap (λ (x : Bool). f && x)
+        (turn (a && b && c && d) e ∙ ap (λ (x : Bool). e && x)
+        (turn (a && b && c) d ∙ ap (λ (x : Bool). d && x) (turn (a && b) c ∙ ap (λ (x : Bool). c && x) (turn a b ∙ ap (λ (x : Bool). b && x) (on a)))))
 
 -- ── Names ──
 
@@ -140,10 +163,6 @@ module _ (n c : ℕ) (w b : List ℕ) (i : ℕ) (k : Cell) (ek : k ≡ cellAt w 
       last-of-three (generationWell (cellAt w i)) (fieldsWell (cellAt w i)) (stateChecks n c w b i (stateOf (cellAt w i))) p q r (e ∙ ap generationWell ek) t (z ∙ ap fieldsWell ek) s
       (y ∙ ap (stateChecks n c w b i) (eσ ∙ ap stateOf ek))
 
-pub generation-in : (k : Cell) (p : Bool) → p ≡ generationWell k → not p ≡ false → k .generation ≤ 4294967295
-unfolding generationWell
-generation-in k p e t = leb-true (k .generation) 4294967295 (and-left (leb (k .generation) 4294967295) _ (sym e ∙ not-false p t))
-
 pub by-bound : (n c : ℕ) (w b : List ℕ) (i m : ℕ) (r : Bool) → r ≡ nameChecks n c w b i m → r ≡ stateChecks n c w b i (Bound m)
 unfolding stateChecks
 by-bound n c w b i m r e = e
@@ -156,8 +175,3 @@ module _ (n c : ℕ) (w b : List ℕ) (i : ℕ) (h : Bool) (eh : h ≡ headerWel
 
   pub slots-pass : n ≤ i → AllBefore (slotChecks n c w b) i → true ≡ headerWell n c w && every n (slotChecks n c w b)
   slots-pass l a = last-of-two (headerWell n c w) (every n (slotChecks n c w b)) h true eh th (all-done n (slotChecks n c w b) i l a)
-
--- ── The zeros of the header ──
-
-abbrev pub zeroAt : List ℕ → ℕ → Bool
-zeroAt w k = eqb (getD w (2 + k) 0) 0

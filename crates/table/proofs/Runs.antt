@@ -7,7 +7,9 @@ use Prim.Native.Nat.{ℕ, _+_, _≤_, _<_}
 use native.Mathlib.Decide.{decLt}
 use native.Mathlib.Omega.{arith}
 use lib.ListN.{getD}
+use lib.Bits.{bitOr}
 use borrow.Author.Tests.{le-leb, not-true, not-false}
+use Rattle.laws.proofs.Bits.{or-least, or-zero}
 use Rattle.storage.specs.Layout.{cellBase}
 use Rattle.storage.specs.Cells.{cellAt}
 use Rattle.table.specs.OnePass.{slotChecks, ClosedRun, PassRun, Skips}
@@ -28,6 +30,19 @@ closed-here w n i r h run e l =
 
 pub none-closed : (w : List ℕ) (n i : ℕ) → i ≤ n → ClosedRun w n i i
 none-closed w n i h = record { onward = omega arith; inside = h; closed = λ j hi hr. absurd (let z : j < j = omega arith in omega arith) }
+
+pub two-closed : (w : List ℕ) (n i r : ℕ) → r + 1 < n → ClosedRun w n i r → bitOr (getD w (cellBase r + 1) 0) (getD w (cellBase r + 17) 0) ≡ 0
+    → bitOr (getD w (cellBase r + 0) 0) (getD w (cellBase r + 16) 0) ≤ 4294967295 → ClosedRun w n i (r + 2)
+two-closed w n i r h run e l =
+    let t = or-zero (getD w (cellBase r + 1) 0) (getD w (cellBase r + 17) 0) e in
+    let g = or-least (getD w (cellBase r + 0) 0) (getD w (cellBase r + 16) 0) in
+    let one = closed-here w n i r (omega arith) run (t .0) (omega (arith, g .0)) in
+    let et : cellBase r + 17 ≡ cellBase (r + 1) + 1 = omega arith in
+    let eg : cellBase r + 16 ≡ cellBase (r + 1) + 0 = omega arith in
+    let m : getD w (cellBase r + 16) 0 ≤ 4294967295 = omega (arith, g .1) in
+    let two = closed-here w n i (r + 1) h one (subst (λ (x : ℕ). getD w x 0 ≡ 0) et (t .1)) (subst (λ (x : ℕ). getD w x 0 ≤ 4294967295) eg m) in
+    let er : r + 1 + 1 ≡ r + 2 = omega arith in
+    subst (λ (x : ℕ). ClosedRun w n i x) er two
 
 -- ── Connected slots ──
 

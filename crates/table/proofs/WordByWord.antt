@@ -3,12 +3,14 @@ use mathlib.Core.Path.{_≡_, refl, sym, ap, _∙_}
 use mathlib.Core.Logic.{_≢_}
 use mathlib.Core.Bool.{Bool, true, false, cond, not, _&&_}
 use mathlib.Core.List.{List, []}
-use Prim.Native.Nat.{ℕ, _+_, _*_, _≤_, _<_}
+use Prim.Native.Nat.{ℕ, _+_, _≤_, _<_}
 use native.Mathlib.Nat.{add-assoc}
 use native.Mathlib.Omega.{arith}
-use lib.Dec.{eqb}
+use lib.Dec.{leb, eqb}
+use lib.Bits.{bitOr}
 use lib.ListN.{getD}
-use borrow.Author.Tests.{le-leb, lt-leb, eq-eqb, ne-eqb}
+use borrow.Author.Tests.{eq-eqb, ne-eqb}
+use Rattle.laws.proofs.Bits.{or-zero, or-other, or-eqb, or-leb}
 use Rattle.inbox.specs.declared.Inbox.{Inbox}
 use Rattle.storage.specs.Layout.{cellBase}
 use Rattle.storage.specs.Cells.{cellAt, stateOf, connectionOf, fourAt}
@@ -42,34 +44,17 @@ unnamed-words w i f e =
       pending = ap (λ (x : Four). x .d) e ∙ ap (λ (x : ℕ). getD w x 0) (add-assoc (cellBase i) 2 3);
     }
 
-module _ (w : List ℕ) (i : ℕ) (f : Four) (e : f ≡ fourAt w (cellBase i + 2)) where
-  pub has-name : f .a ≢ 0 → false ≡ noName (cellAt w i) && noQueue (cellAt w i)
-  unfolding noName
-  has-name ne = let u = unnamed-words w i f e in rw (ne-eqb (cellAt w i .name) 0 (λ z. ne (u .name ∙ z)))
-
-  pub has-backlog : f .a ≡ 0 → f .b ≢ 0 → false ≡ noName (cellAt w i) && noQueue (cellAt w i)
-  unfolding noName noQueue
-  has-backlog a ne =
-      let u = unnamed-words w i f e in
-      rw (eq-eqb (cellAt w i .name) 0 (sym (u .name) ∙ a), ne-eqb (cellAt w i .backlog) 0 (λ z. ne (u .backlog ∙ z)))
-
-  pub has-head : f .a ≡ 0 → f .b ≡ 0 → f .c ≢ 0 → false ≡ noName (cellAt w i) && noQueue (cellAt w i)
-  unfolding noName noQueue
-  has-head a b ne =
-      let u = unnamed-words w i f e in
-      rw (eq-eqb (cellAt w i .name) 0 (sym (u .name) ∙ a), eq-eqb (cellAt w i .backlog) 0 (sym (u .backlog) ∙ b), ne-eqb (cellAt w i .head) 0 (λ z. ne (u .head ∙ z)))
-
-  pub has-pending : f .a ≡ 0 → f .b ≡ 0 → f .c ≡ 0 → f .d ≢ 0 → false ≡ noName (cellAt w i) && noQueue (cellAt w i)
-  unfolding noName noQueue
-  has-pending a b c ne =
-      let u = unnamed-words w i f e in
-      rw (eq-eqb (cellAt w i .name) 0 (sym (u .name) ∙ a), eq-eqb (cellAt w i .backlog) 0 (sym (u .backlog) ∙ b), eq-eqb (cellAt w i .head) 0 (sym (u .head) ∙ c), ne-eqb (cellAt w i .pending) 0 (λ z. ne (u .pending ∙ z)))
-
-  pub all-zero : f .a ≡ 0 → f .b ≡ 0 → f .c ≡ 0 → f .d ≡ 0 → true ≡ noName (cellAt w i) && noQueue (cellAt w i)
-  unfolding noName noQueue
-  all-zero a b c d =
-      let u = unnamed-words w i f e in
-      rw (eq-eqb (cellAt w i .name) 0 (sym (u .name) ∙ a), eq-eqb (cellAt w i .backlog) 0 (sym (u .backlog) ∙ b), eq-eqb (cellAt w i .head) 0 (sym (u .head) ∙ c), eq-eqb (cellAt w i .pending) 0 (sym (u .pending) ∙ d))
+pub unnamed-test : (w : List ℕ) (i : ℕ) (f : Four) → f ≡ fourAt w (cellBase i + 2)
+    → eqb (bitOr (bitOr (bitOr (f .a) (f .b)) (f .c)) (f .d)) 0 ≡ noName (cellAt w i) && noQueue (cellAt w i)
+unfolding noName noQueue
+unnamed-test w i f e =
+    let u = unnamed-words w i f e in
+    or-eqb (bitOr (bitOr (f .a) (f .b)) (f .c)) (f .d) ∙ rw (or-eqb (bitOr (f .a) (f .b)) (f .c), or-eqb (f .a) (f .b), u .name, u .backlog, u .head, u .pending)
+    (go (eqb (cellAt w i .name) 0) (eqb (cellAt w i .backlog) 0) (eqb (cellAt w i .head) 0) (eqb (cellAt w i .pending) 0))
+  where
+    go : (a b c d : Bool) → a && b && c && d ≡ a && (b && c && d)
+    go true b c d = refl
+    go false b c d = refl
 
 -- ── The flags ──
 
@@ -82,14 +67,8 @@ module _ (w : List ℕ) (i : ℕ) (f : Four) (e : f ≡ fourAt w (cellBase i + 6
   unfolding cellAt
   out-flag = ap (λ (x : Four). x .c) e ∙ ap (λ (x : ℕ). getD w x 0) (add-assoc (cellBase i) 6 2)
 
-  pub bad-in : 1 < f .b → false ≡ flagsWell (cellAt w i)
-  bad-in h = let z = in-flag in rw (lt-leb (cellAt w i .«inbox_closed») 1 (omega arith))
-
-  pub bad-out : f .b ≤ 1 → 1 < f .c → false ≡ flagsWell (cellAt w i)
-  bad-out a h = let z = in-flag in let y = out-flag in rw (le-leb (cellAt w i .«inbox_closed») 1 (omega arith), lt-leb (cellAt w i .«outbox_closed») 1 (omega arith))
-
-  pub good-flags : f .b ≤ 1 → f .c ≤ 1 → true ≡ flagsWell (cellAt w i)
-  good-flags a h = let z = in-flag in let y = out-flag in rw (le-leb (cellAt w i .«inbox_closed») 1 (omega arith), le-leb (cellAt w i .«outbox_closed») 1 (omega arith))
+  pub flags-test : leb (bitOr (f .b) (f .c)) 1 ≡ flagsWell (cellAt w i)
+  flags-test = or-leb (f .b) (f .c) 1 1 refl ∙ rw (in-flag, out-flag)
 
 -- ── The words of an inbox ──
 
@@ -148,12 +127,11 @@ pub beside : (a b : Bool) → false ≡ b → false ≡ a && b
 beside true b e = e
 beside false b e = refl
 
-pub not-waiting : (k : Cell) (s : Bool) → k .waits ≡ 0 → true ≡ s → eqb (k .place) 0 ≡ placeWell k && s
-not-waiting k s e t = rw (eq-eqb (k .waits) 0 e, sym t) (go (eqb (k .place) 0))
-  where
-    go : (x : Bool) → x ≡ x && true
-    go true = refl
-    go false = refl
+pub not-waiting : (k : Cell) (s : Bool) → bitOr (k .waits) (k .place) ≡ 0 → true ≡ s → true ≡ placeWell k && s
+not-waiting k s e t = let z = or-zero (k .waits) (k .place) e in rw (eq-eqb (k .waits) 0 (z .0), eq-eqb (k .place) 0 (z .1), sym t)
+
+pub place-alone : (k : Cell) (s : Bool) → bitOr (k .waits) (k .place) ≢ 0 → k .waits ≡ 0 → false ≡ placeWell k && s
+place-alone k s ne e = rw (eq-eqb (k .waits) 0 e, ne-eqb (k .place) 0 (or-other (k .waits) (k .place) ne e))
 
 pub some-waiting : (k : Cell) (s r : Bool) → k .waits ≢ 0 → r ≡ s → r ≡ placeWell k && s
 some-waiting k s r ne e = rw (ne-eqb (k .waits) 0 ne) e

@@ -4,7 +4,7 @@ use mathlib.Core.Path.{_≡_}
 use mathlib.Core.Bool.{Bool, true, _&&_}
 use lib.Dec.{leb}
 use lib.ListN.{length}
-use Rattle.rules.specs.Run.{inRange, admission}
+use Rattle.rules.specs.Run.{admission}
 use Rattle.storage.specs.Layout.{sizesOf}
 use Rattle.storage.specs.Rows.{Store}
 use Rattle.table.specs.Formed.{formed}

@@ -18,19 +18,7 @@ fn unnamed(words: &[u64], i: usize) -> bool
 {
     let b = 8 + 16 * i;
     let four = storage::load_four(words, b + 2);
-    if four.a != 0 {
-        return false;
-    }
-    if four.b != 0 {
-        return false;
-    }
-    if four.c != 0 {
-        return false;
-    }
-    if four.d != 0 {
-        return false;
-    }
-    true
+    (four.a | four.b | four.c | four.d) == 0
 }
 
 // "each flag 0 or 1"
@@ -40,13 +28,7 @@ fn flags_well(words: &[u64], i: usize) -> bool
 {
     let b = 8 + 16 * i;
     let four = storage::load_four(words, b + 6);
-    if 1 < four.b {
-        return false;
-    }
-    if 1 < four.c {
-        return false;
-    }
-    true
+    (four.b | four.c) <= 1
 }
 
 fn inbox_at(words: &[u64], i: usize) -> Inbox
@@ -77,8 +59,11 @@ fn state_checks(words: &[u64], n: usize, c: usize, i: usize, generation: u64) ->
     if !storage::inboxes::is_well(words, n, c, i, inbox_at(words, i)) {
         return false;
     }
+    if (words[b + 14] | words[b + 15]) == 0 {
+        return true;
+    }
     if words[b + 14] == 0 {
-        return words[b + 15] == 0;
+        return false;
     }
     let server = storage::connection_of(storage::load_cell(words, i));
     crate::pending::server_stands(words, n, i, me, server)

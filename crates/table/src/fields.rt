@@ -17,46 +17,15 @@ fn no_name(cell: Cell) -> bool
 fn no_queue(cell: Cell) -> bool
     ensures { λ r. ⌜ r ≡ noQueue cell ⌝ }
 {
-    if cell.backlog != 0 {
-        return false;
-    }
-    if cell.head != 0 {
-        return false;
-    }
-    cell.pending == 0
+    (cell.backlog | cell.head | cell.pending) == 0
 }
 
 fn no_pair(cell: Cell) -> bool
     ensures { λ r. ⌜ r ≡ noPair cell ⌝ }
 {
-    if cell.peer != 0 {
-        return false;
-    }
-    if cell.inbox_closed != 0 {
-        return false;
-    }
-    if cell.outbox_closed != 0 {
-        return false;
-    }
-    if cell.byte != 0 {
-        return false;
-    }
-    if cell.written_total != 0 {
-        return false;
-    }
-    if cell.read_total != 0 {
-        return false;
-    }
-    if cell.first != 0 {
-        return false;
-    }
-    if cell.items != 0 {
-        return false;
-    }
-    if cell.waits != 0 {
-        return false;
-    }
-    cell.place == 0
+    let ends = cell.peer | cell.inbox_closed | cell.outbox_closed;
+    let queued = ends | cell.byte | cell.written_total | cell.read_total | cell.first | cell.items;
+    (queued | cell.waits | cell.place) == 0
 }
 
 fn unbound_fields(cell: Cell) -> bool

@@ -29,14 +29,7 @@ fn zeros(words: &[u64]) -> bool
     requires { ⌜ 8 ≤ length (now words) ⌝ }
     ensures { λ r. ⌜ r ≡ every 6 (λ k. eqb (getD (now (words .entry)) (2 + k) 0) 0) ⌝ }
 {
-    let mut k = 0;
-    while k < 6 {
-        if words[2 + k] != 0 {
-            return false;
-        }
-        k += 1;
-    }
-    true
+    (words[2] | words[3] | words[4] | words[5] | words[6] | words[7]) == 0
 }
 
 // "storage numbers match N and C"
@@ -127,12 +120,31 @@ fn slot_checks(words: &[u64], bytes: &[u8], n: usize, c: usize, i: usize) -> boo
     other_checks(words, bytes, n, c, i)
 }
 
+// Past closed slots, two at a time.
+fn skip_pairs(words: &[u64], n: usize, from: usize) -> usize
+    requires { ⌜ (from ≤ n) × (n ≤ 1024) × (8 + 16 * n ≤ length (now words)) ⌝ }
+    ensures { λ r. ⌜ ClosedRun (now (words .entry)) n from r ⌝ }
+{
+    let mut i = from;
+    while i + 1 < n {
+        let b = 8 + 16 * i;
+        if (words[b + 1] | words[b + 17]) != 0 {
+            return i;
+        }
+        if 4294967295 < (words[b + 0] | words[b + 16]) {
+            return i;
+        }
+        i += 2;
+    }
+    i
+}
+
 // The first slot from `from` on that is not closed, or whose generation is too large; or `n`.
 fn skip_closed(words: &[u64], n: usize, from: usize) -> usize
     requires { ⌜ (from ≤ n) × (n ≤ 1024) × (8 + 16 * n ≤ length (now words)) ⌝ }
     ensures { λ r. ⌜ ClosedRun (now (words .entry)) n from r ⌝ }
 {
-    let mut i = from;
+    let mut i = skip_pairs(words, n, from);
     while i < n {
         let b = 8 + 16 * i;
         if words[b + 1] != 0 {

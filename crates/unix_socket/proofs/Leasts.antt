@@ -1,12 +1,12 @@
 -- sizes
-use mathlib.Core.Path.{_≡_, refl, sym, ap, _∙_}
-use mathlib.Core.Bool.{Bool, true, false, not, cond}
+use mathlib.Core.Path.{_≡_, refl, sym, _∙_}
+use mathlib.Core.Bool.{Bool, true, false, not}
 use Prim.Native.Nat.{ℕ, _≤_}
 use Rattle.rules.specs.Run.{inRange}
 use Rattle.storage.specs.Layout.{sizesOf}
 use Rattle.storage.specs.declared.Sizes.{Sizes}
 use Rattle.table.proofs.Facts.{ranged}
-use Rattle.unix_socket.specs.Least.{leastWith, leastOf, none}
+use Rattle.unix_socket.specs.Least.{leastWith, leastOf}
 use Rattle.unix_socket.specs.declared.Least.{Least}
 
 yes-is : (b : Bool) → not b ≡ false → b ≡ true

@@ -1,17 +1,16 @@
 -- How the syntax's test goes on by one octet, at a place of a string.
-use mathlib.Core.Path.{_≡_, refl, sym, _∙_, ap}
-use mathlib.Core.Bool.{Bool, true, false, cond, _&&_, _||_, and-false}
+use mathlib.Core.Path.{_≡_, refl, _∙_, ap}
+use mathlib.Core.Bool.{Bool, true, false, _&&_, and-false}
 use mathlib.Core.List.{List, [], _∷_}
-use Prim.Native.Nat.{ℕ, zero, suc, _+_, _-_, _<_, _≤_}
+use Prim.Native.Nat.{ℕ, suc, _+_, _-_, _<_, _≤_}
 use native.Mathlib.Omega.{arith}
-use native.Mathlib.Nat.{suc-add}
 use native.Mathlib.Numerals.{add-one}
-use borrow.Author.Tests.{le-leb, lt-leb, eq-eqb, ne-eqb}
-use lib.Dec.{leb, eqb}
+use borrow.Author.Tests.{le-leb, lt-leb, ne-eqb}
+use lib.Dec.{leb}
 use lib.ListN.{length, getD, drop, replicate, length-drop, length-replicate}
 use lib.Seq.{drop-cons}
 use Rattle.utf8.specs.Syntax.{Range, octets, has, rows, starts, follow, passes, tail}
-use Rattle.utf8.specs.Steps.{Step, Tails}
+use Rattle.utf8.specs.Steps.{Tails}
 
 -- a range from its two tests
 pub inside : (a b x : ℕ) → a ≤ x → x ≤ b → has (octets a b) x ≡ true

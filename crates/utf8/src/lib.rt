@@ -1,9 +1,8 @@
 // RFC 3629: is this byte string UTF-8?
 ghost use mathlib.Core.Path.{_≡_};
 ghost use Prim.Native.Nat.{_+_, _<_, _≤_};
-ghost use lib.ListN.{length, drop, replicate};
-ghost use mathlib.Core.List.{_∷_};
-ghost use Rattle.utf8.specs.Syntax.{isUtf8, octets, tail};
+ghost use lib.ListN.{length};
+ghost use Rattle.utf8.specs.Syntax.{isUtf8};
 ghost use Rattle.utf8.specs.Steps.{Step, Tails};
 
 pub fn is_utf8(s: &[u8]) -> bool

@@ -1,7 +1,6 @@
 use mathlib.Core.Path.{_∙_, ap}
-use lib.IntN.{ℤ}
 use mir.Syntax.{w32}
-use mir.Val.{ofZ, toZ}
+use mir.Val.{ofZ}
 use mir.ValLaws.{toZ-ofZ}
 use Rattle.le.proofs.Signs.{up-cast, up-is, down-fits, down-cast, down-sub, down-is, read-fits}
 use Rattle.le.proofs.bits.Statement.{statement}

@@ -1,5 +1,4 @@
 use native.Mathlib.Omega.{arith}
-use borrow.Author.Needs.{needs}
 use Rattle.ring.proofs.Copying.{place-low, place-high}
 use Rattle.ring.proofs.place.Statement.{statement}
 use Rattle.ring.proofs.place.Tie as tie

@@ -2,7 +2,7 @@
 use Prim.Native.Nat.{_-_}
 use borrow.Author.Needs.{needs}
 use Rattle.table.specs.OnePass.{ClosedRun}
-use Rattle.table.proofs.Runs.{none-closed, closed-here}
+use Rattle.table.proofs.Runs.{closed-here}
 use Rattle.table.proofs.skip_closed.Statement.{statement}
 use Rattle.table.proofs.skip_closed.Tie as tie
 
@@ -12,8 +12,11 @@ Inv-loop words n from i₀ i = ClosedRun words n from i
 abbrev μ-loop : tie.MeasureT-loop
 μ-loop words n from i₀ i = n - i
 
+skip-pairs-requires : tie.Need-skip-pairs-requires Inv-loop μ-loop
+skip-pairs-requires c κs = search needs
+
 loop-holds : tie.Need-loop-holds Inv-loop μ-loop
-loop-holds c = none-closed _ _ _ (c .pre .0)
+loop-holds c = c .skip-pairs .ensures
 
 mul-b : tie.Need-mul-b Inv-loop μ-loop
 mul-b c = search needs
@@ -63,6 +66,7 @@ skip-closed-spec =
     (tie.spec
     Inv-loop
     μ-loop
+    skip-pairs-requires
     loop-holds
     mul-b
     add-b

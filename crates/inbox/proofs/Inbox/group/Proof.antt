@@ -1,7 +1,7 @@
 use native.Mathlib.Omega.{arith}
 -- The items before i are at the first queued byte.
 use Rattle.inbox.proofs.Parts.{group-goes-on, group-stops, group-ends}
-use mathlib.Core.Path.{_≡_, refl}
+use mathlib.Core.Path.{_≡_}
 use Prim.Native.Nat.{_+_, _-_, _≤_}
 use lib.ListN.{drop}
 use Rattle.inbox.specs.View.{distances, front}

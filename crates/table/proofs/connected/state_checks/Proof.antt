@@ -1,4 +1,5 @@
 use mathlib.Core.Path.{ap, _∙_}
+use Rattle.laws.proofs.Bits.{or-zero}
 use Rattle.inbox.specs.Well.{isWell}
 use Rattle.inbox.specs.declared.Inbox.{Inbox}
 use Rattle.storage.specs.Layout.{part, placesBase}
@@ -9,7 +10,7 @@ use Rattle.table.specs.Formed.{tiedState}
 use Rattle.table.specs.OnePass.{placeWell}
 use Rattle.table.proofs.Servers.{given-out}
 use Rattle.table.proofs.Pass.{its-handle, bad-peer, bad-inbox, by-standing}
-use Rattle.table.proofs.WordByWord.{beside, not-waiting, some-waiting}
+use Rattle.table.proofs.WordByWord.{beside, not-waiting, place-alone, some-waiting}
 use borrow.Author.Needs.{needs}
 use Rattle.table.proofs.connected.state_checks.Statement.{statement}
 use Rattle.table.proofs.connected.state_checks.Tie as tie
@@ -67,18 +68,31 @@ mul-if3-2 c = search needs
 shared-slice-read-if3-2 : tie.Need-shared-slice-read-if3-2
 shared-slice-read-if3-2 c = search needs
 
-add-result : tie.Need-add-result
-add-result c = search needs
+add-if3-3 : tie.Need-add-if3-3
+add-if3-3 c = search needs
 
-mul-result : tie.Need-mul-result
-mul-result c = search needs
+mul-if3-3 : tie.Need-mul-if3-3
+mul-if3-3 c = search needs
 
-shared-slice-read-result : tie.Need-shared-slice-read-result
-shared-slice-read-result c = search needs
+shared-slice-read-if3-3 : tie.Need-shared-slice-read-if3-3
+shared-slice-read-if3-3 c = search needs
 
 returns-3 : tie.Need-returns-3
 unfolding cellAt
-returns-3 c = let s = c .before .before .before .before .before .before .before .before .before .before .before .before in let m = c .before .before .before .before .before .before .before .before .before .before .handle in let k = cellAt (s .args .words .now) (s .args .i) in not-waiting k _ (c .before .if3 .taken) (by-standing (s .args .n) (s .args .c) (s .args .words .now) (s .args .i) (s .args .generation) (m .result .0) (connectionOf k) (s .pre .4) (m .ensures) _ _ _ (c .before .before .before .before .before .before .before .peer-checks .ensures) (c .before .before .before .before .before .before .if1 .left) (c .before .before .before .before .is-well .ensures ∙ ap (λ (x : Inbox). isWell (s .args .c) (part (placesBase (s .args .n) (s .args .i)) 256 (s .args .words .now)) x) (c .before .before .before .before .before .inbox-at .ensures)) (c .before .before .before .if2 .left) (given-out _ _ _ _ (c .before .if3 .taken)))
+returns-3 c = let s = c .before .before .before .before .before .before .before .before .before .before .before .before in let m = c .before .before .before .before .before .before .before .before .before .before .handle in let k = cellAt (s .args .words .now) (s .args .i) in let z = or-zero (k .waits) (k .place) (c .if3 .taken) in not-waiting k _ (c .if3 .taken) (by-standing (s .args .n) (s .args .c) (s .args .words .now) (s .args .i) (s .args .generation) (m .result .0) (connectionOf k) (s .pre .4) (m .ensures) _ _ _ (c .before .before .before .before .before .before .before .peer-checks .ensures) (c .before .before .before .before .before .before .if1 .left) (c .before .before .before .before .is-well .ensures ∙ ap (λ (x : Inbox). isWell (s .args .c) (part (placesBase (s .args .n) (s .args .i)) 256 (s .args .words .now)) x) (c .before .before .before .before .before .inbox-at .ensures)) (c .before .before .before .if2 .left) (given-out _ _ _ _ (z .0)))
+
+add-if4 : tie.Need-add-if4
+add-if4 c = search needs
+
+mul-if4 : tie.Need-mul-if4
+mul-if4 c = search needs
+
+shared-slice-read-if4 : tie.Need-shared-slice-read-if4
+shared-slice-read-if4 c = search needs
+
+returns-4 : tie.Need-returns-4
+unfolding cellAt
+returns-4 c = let s = c .before .before .before .before .before .before .before .before .before .before .before .before .before .before in place-alone (cellAt (s .args .words .now) (s .args .i)) _ (c .before .before .if3 .left) (c .if4 .taken)
 
 load-cell-requires : tie.Need-load-cell-requires
 load-cell-requires c κs = search needs
@@ -87,11 +101,11 @@ connection-of-requires : tie.Need-connection-of-requires
 connection-of-requires c κs = search needs
 
 server-stands-requires : tie.Need-server-stands-requires
-server-stands-requires c κs = let s = c .before .before .before .before .before .before .before .before .before .before .before .before .before in let m = c .before .before .before .before .before .before .before .before .before .before .before .handle in let k = cellAt (s .args .words .now) (s .args .i) in let h = its-handle (s .args .n) (s .args .c) (s .args .words .now) (s .args .i) (s .args .generation) (m .result .0) (connectionOf k) (s .pre .4) (m .ensures) in search needs
+server-stands-requires c κs = let s = c .before .before .before .before .before .before .before .before .before .before .before .before .before .before .before .before in let m = c .before .before .before .before .before .before .before .before .before .before .before .before .before .before .handle in let k = cellAt (s .args .words .now) (s .args .i) in let h = its-handle (s .args .n) (s .args .c) (s .args .words .now) (s .args .i) (s .args .generation) (m .result .0) (connectionOf k) (s .pre .4) (m .ensures) in search needs
 
-returns-4 : tie.Need-returns-4
+returns-5 : tie.Need-returns-5
 unfolding cellAt
-returns-4 c = let s = c .before .before .before .before .before .before .before .before .before .before .before .before .before .before in let m = c .before .before .before .before .before .before .before .before .before .before .before .before .handle in let k = cellAt (s .args .words .now) (s .args .i) in some-waiting k _ _ (c .before .before .before .if3 .left) (by-standing (s .args .n) (s .args .c) (s .args .words .now) (s .args .i) (s .args .generation) (m .result .0) (connectionOf k) (s .pre .4) (m .ensures) _ _ _ (c .before .before .before .before .before .before .before .before .before .peer-checks .ensures) (c .before .before .before .before .before .before .before .before .if1 .left) (c .before .before .before .before .before .before .is-well .ensures ∙ ap (λ (x : Inbox). isWell (s .args .c) (part (placesBase (s .args .n) (s .args .i)) 256 (s .args .words .now)) x) (c .before .before .before .before .before .before .before .inbox-at .ensures)) (c .before .before .before .before .before .if2 .left) (c .server-stands .ensures ∙ ap (λ (x : Connection). tiedState (s .args .n) (s .args .words .now) (s .args .i) (Connected x)) (c .before .connection-of .ensures ∙ ap connectionOf (c .before .before .load-cell .ensures))))
+returns-5 c = let s = c .before .before .before .before .before .before .before .before .before .before .before .before .before .before .before .before .before in let m = c .before .before .before .before .before .before .before .before .before .before .before .before .before .before .before .handle in let k = cellAt (s .args .words .now) (s .args .i) in some-waiting k _ _ (c .before .before .before .if4 .left) (by-standing (s .args .n) (s .args .c) (s .args .words .now) (s .args .i) (s .args .generation) (m .result .0) (connectionOf k) (s .pre .4) (m .ensures) _ _ _ (c .before .before .before .before .before .before .before .before .before .before .before .before .peer-checks .ensures) (c .before .before .before .before .before .before .before .before .before .before .before .if1 .left) (c .before .before .before .before .before .before .before .before .before .is-well .ensures ∙ ap (λ (x : Inbox). isWell (s .args .c) (part (placesBase (s .args .n) (s .args .i)) 256 (s .args .words .now)) x) (c .before .before .before .before .before .before .before .before .before .before .inbox-at .ensures)) (c .before .before .before .before .before .before .before .before .if2 .left) (c .server-stands .ensures ∙ ap (λ (x : Connection). tiedState (s .args .n) (s .args .words .now) (s .args .i) (Connected x)) (c .before .connection-of .ensures ∙ ap connectionOf (c .before .before .load-cell .ensures))))
 
 pub state-checks-spec : {M : Type 1} → statement M
 state-checks-spec =
@@ -114,11 +128,15 @@ state-checks-spec =
     add-if3-2
     mul-if3-2
     shared-slice-read-if3-2
-    add-result
-    mul-result
-    shared-slice-read-result
+    add-if3-3
+    mul-if3-3
+    shared-slice-read-if3-3
     returns-3
+    add-if4
+    mul-if4
+    shared-slice-read-if4
+    returns-4
     load-cell-requires
     connection-of-requires
     server-stands-requires
-    returns-4)
+    returns-5)

@@ -1,4 +1,3 @@
-use mathlib.Core.Path.{refl}
 use borrow.Author.Tests.{eq-eqb, ne-eqb}
 use Rattle.table.proofs.pairs.is_gone.Statement.{statement}
 use Rattle.table.proofs.pairs.is_gone.Tie as tie
