@@ -3,6 +3,7 @@
 #               edit refused, every program run
 # make native   the library proved, linked and called from C and Rust, and the Rust original beside it
 # make archive  target/native/libeidrovang.a, to be linked with include/eidrovang.h
+# make kernel   the archive for a kernel, in target/native/kernel/: no vector registers, no red zone (docs/HOST.md); then the same tests
 # make c-test   the library called from C
 # make oracle   the whole comparison with the Rust original, in minutes
 # make bench    times the library beside memcpy and the Rust original (docs/BENCH.md)
@@ -18,7 +19,7 @@ SEED ?= 1
 export RT_JOBS ?= $(shell awk '/^MemTotal/ { n = int($$2 / 2000000) } END { print (n < 1 ? 1 : (n > 10 ? 10 : n)) }' /proc/meminfo 2>/dev/null || echo 2)
 ARCHIVE = target/native/libeidrovang.a
 
-.PHONY: run tour test native archive c-test oracle bench edits fmt kit
+.PHONY: run tour test native archive kernel c-test oracle bench edits fmt kit
 
 run: kit
 	@if command -v cargo >/dev/null; then $(MAKE) --no-print-directory $(ARCHIVE) && \
@@ -47,11 +48,17 @@ archive: kit
 $(ARCHIVE):
 	@$(MAKE) --no-print-directory archive
 
+kernel: kit
+	@echo "proving the library and building it for a kernel on this machine (some minutes) .."
+	@scripts/native-archive --kernel eidrovang target/native/kernel/libeidrovang.a
+	@$(MAKE) --no-print-directory c-test ARCHIVE=target/native/kernel/libeidrovang.a
+	@EIDROVANG_LIB_DIR=target/native/kernel scripts/host-tests
+
 c-test: $(ARCHIVE)
 	@command -v $(CC) >/dev/null || { echo "c-test: passed over, there is no C compiler ($(CC))"; exit 0; }; \
 	for t in tests/c/*.c; do \
-	    $(CC) -std=c11 -Wall -Wextra -Wpedantic -Werror -O2 -Iinclude $$t $(ARCHIVE) -o target/native/$$(basename $$t .c) && \
-	    target/native/$$(basename $$t .c) || exit 1; \
+	    $(CC) -std=c11 -Wall -Wextra -Wpedantic -Werror -O2 -Iinclude $$t $(ARCHIVE) -o $(dir $(ARCHIVE))$$(basename $$t .c) && \
+	    $(dir $(ARCHIVE))$$(basename $$t .c) || exit 1; \
 	done
 
 oracle: $(ARCHIVE)
