@@ -13,7 +13,7 @@ use lib.Dec.{leb, ltb, eqb}
 use borrow.Author.Tests.{lt-ltb, le-ltb, ltb-false, le-leb, lt-leb, eq-eqb, ne-eqb}
 use Rattle.ring.specs.Ring.{placeOf, queued, whole}
 use Rattle.ring.proofs.Queued.{queued-length, queued-take, queued-drop, queued-at}
-use Rattle.ring.proofs.Copying.{place-is}
+use Rattle.ring.proofs.Copying.{place-low, place-high, place-is}
 use Rattle.laws.proofs.Tests.{less-or}
 use Rattle.rules.specs.Inbox.{group, moved}
 use Rattle.rules.specs.Moving.{handed, released, flagsOf}
@@ -35,6 +35,15 @@ positive (suc n) ne = omega arith
 
 some : (r c n : ℕ) → r ≡ c - n → n ≤ c → (r ≡ 0 → ⊥) → n < c
 some r c n e h ne = let z = positive r ne in omega arith
+
+-- ── The rings of the items ──
+
+pub place-mod : (k : ℕ) → k < 512 → (k % 256 ≡ placeOf 256 k) × (k % 256 < 256)
+place-mod k h = go (less-or k 256)
+  where
+    go : (k < 256) ⊎ (256 ≤ k) → (k % 256 ≡ placeOf 256 k) × (k % 256 < 256)
+    go (inl l) = let e : k % 256 ≡ k = omega arith in (e ∙ place-low 256 k l .0, omega arith)
+    go (inr g) = let e : k % 256 ≡ k - 256 = omega arith in (e ∙ place-high 256 k g (omega arith) .0, omega arith)
 
 -- ── The policy ──
 

@@ -5,7 +5,7 @@ ghost use mathlib.Core.Path.{_≡_};
 ghost use Prim.Native.Nat.{_+_, _-_, _<_, _≤_, min};
 ghost use mathlib.Core.Bool.{true, false};
 ghost use lib.ListN.{length, drop};
-ghost use Rattle.ring.specs.Ring.{queued};
+ghost use Rattle.ring.specs.Ring.{placeOf, queued};
 ghost use Rattle.words.specs.Numbers.{refusalOf};
 ghost use Rattle.inbox.specs.View.{dist, count, distances, front, nearest};
 ghost use Rattle.inbox.specs.Well.{rises, isWell, Well};
@@ -193,7 +193,7 @@ impl Inbox {
     {
         let mut i = 0;
         while i < self.items {
-            if places[ring::place(256, self.first + i)] != self.read_total {
+            if places[place(self.first + i)] != self.read_total {
                 return i;
             }
             i += 1;
@@ -207,7 +207,7 @@ impl Inbox {
         ensures { λ r. ⌜ r ≡ nearest (count self) (drop g (distances self (now (places .entry)))) ⌝ }
     {
         if g < self.items {
-            distance(places[ring::place(256, self.first + g)], self.read_total)
+            distance(places[place(self.first + g)], self.read_total)
         } else {
             self.queued()
         }
@@ -220,7 +220,7 @@ impl Inbox {
         ensures { λ _. ⌜ Hands (queued (now (tokens .entry)) (self .first) g) m (now (items .entry)) (now (items .exit)) (now (releases .entry)) (now (releases .exit)) ⌝ }
     {
         ring::read_u32(tokens, self.first, items, 0, m);
-        ring::read_u32(tokens, ring::place(256, self.first + m), releases, 0, g - m);
+        ring::read_u32(tokens, place(self.first + m), releases, 0, g - m);
     }
 
     // The numbers when the first `k` bytes and the first `g` items are gone.
@@ -232,7 +232,7 @@ impl Inbox {
             head: ring::place(c, self.head + k),
             written_total: self.written_total,
             read_total: std::num::wrapping_add_u64(self.read_total, k as u64),
-            first: ring::place(256, self.first + g),
+            first: place(self.first + g),
             items: self.items - g,
         }
     }
@@ -282,7 +282,7 @@ impl Inbox {
         let mut low = 0;
         let mut i = 0;
         while i < self.items {
-            let d = distance(places[ring::place(256, self.first + i)], self.read_total);
+            let d = distance(places[place(self.first + i)], self.read_total);
             if d < low {
                 return false;
             }
@@ -294,6 +294,14 @@ impl Inbox {
         }
         true
     }
+}
+
+// The place of entry `k` in the rings of the items: `ring::place` for 256, in one operation.
+fn place(k: usize) -> usize
+    requires { ⌜ k < 512 ⌝ }
+    ensures { λ r. ⌜ (r ≡ placeOf 256 k) × (r < 256) ⌝ }
+{
+    k % 256
 }
 
 // How far the stream offset `from` lies before `to`.
