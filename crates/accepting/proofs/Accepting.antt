@@ -29,7 +29,7 @@ use Rattle.storage.specs.declared.State.{State}
 use Rattle.storage.specs.declared.State.the-variants.{Closed, Unbound, Bound, Listening, Connected}
 use Rattle.storage.specs.declared.Listener.{Listener}
 use Rattle.storage.specs.declared.Connection.{Connection}
-use Rattle.storage.proofs.Coding.{back, back-gen}
+use Rattle.storage.proofs.Coding.{back, back-gen, listening-inj, connected-inj, loadedAt}
 use Rattle.storage.proofs.Pasted.{part-at}
 use Rattle.storage.proofs.Framing.{store-rows}
 use Rattle.storage.proofs.Around.{store-around, around-then, roomy-around}
@@ -44,7 +44,7 @@ use Rattle.promise.specs.declared.Answer.{Answer}
 use Rattle.promise.proofs.Asked.{slot-in}
 use Rattle.promise.proofs.Known.{Known, known, refused-done, listener-at, inbox-stays}
 use Rattle.promise.proofs.Live.{stale-run, live-run, not-closed}
-use Rattle.promise.proofs.Kept.{other-state, listening-inj, connected-inj, row-changed, row-other}
+use Rattle.promise.proofs.Kept.{other-state, row-changed, row-other}
 use Rattle.promise.proofs.Changed.{Fit, fit-same, placed, fields-listening, rows-stored, accepted-done}
 use Rattle.promise.proofs.Called.{Called, called, become-is}
 use Rattle.promise.proofs.Held.{inbox-in, connected-fit}
@@ -96,7 +96,7 @@ queue-front r h m p v hh ne hm ep ev =
 -- ── What the parts of the call ask ──
 
 module _ {n c : ℕ} {w b t : List ℕ} {x y : ℕ} (a : Admitted n c (lent w b t) x y) (h : ℕ) (v : Bool) (ev : v ≡ liveIn n w h) (lv : not v ≡ false) (i : ℕ) (ei : i ≡ slotOf h) (z : Slot)
-    (ez : z ≡ record { generation = cellAt w i .generation; state = stateOf (cellAt w i) }) (q : Listener) (eq : z .state ≡ Listening q) where
+    (ez : z ≡ loadedAt w i) (q : Listener) (eq : z .state ≡ Listening q) where
   is-called : Called n c (lent w b t) h i (z .generation) (Listening q)
   is-called = called n c (lent w b t) h v i z (Listening q) ev lv ei ez eq
 
@@ -225,7 +225,7 @@ module _ (n c : ℕ) (s : Store) (l : Lists) (h : ℕ) (r : Answer) (b : Bool) (
   unfolding run
   accept-stale d er = refused-done _ 1 n c s l r (stale-run n c s h b _ eb d) (λ z. omega arith) er
 
-  module _ (lv : not b ≡ false) (i : ℕ) (ei : i ≡ slotOf h) (x : Slot) (ex : x ≡ record { generation = cellAt (s .words) i .generation; state = stateOf (cellAt (s .words) i) }) where
+  module _ (lv : not b ≡ false) (i : ℕ) (ei : i ≡ slotOf h) (x : Slot) (ex : x ≡ loadedAt (s .words) i) where
     at-state : (σ : State) → x .state ≡ σ → Called n c s h i (x .generation) σ
     at-state σ es = called n c s h b i x σ eb lv ei ex es
 
@@ -246,7 +246,7 @@ module _ (n c : ℕ) (s : Store) (l : Lists) (h : ℕ) (r : Answer) (b : Bool) (
           refused-done _ 8 n c s l r (asked (Listening q) es ∙ accept-empty (view n c s) h (rowAt n c s i) (x .generation) q z) (λ y. omega arith) er
 
       module _ (kn : Known n c s) (some : q .pending ≢ 0) (v : ℕ) (ev : v ≡ getD (s .words) (queueBase n i + q .head) 0) (j : ℕ) (ej : j ≡ slotOf v) (y : Slot)
-          (ey : y ≡ record { generation = cellAt (s .words) j .generation; state = stateOf (cellAt (s .words) j) }) where
+          (ey : y ≡ loadedAt (s .words) j) where
         me : Called n c s h i (x .generation) (Listening q)
         me = at-state (Listening q) es
 
@@ -318,7 +318,7 @@ module _ (n c : ℕ) (s : Store) (l : Lists) (h : ℕ) (r : Answer) (b : Bool) (
 
           ring-long : length (rowAt n c s i .queue) ≡ n
           unfolding rowAt
-          ring-long = queue-long n c s (kn .roomy) (kn .good) i hi
+          ring-long = queue-long n c s (kn .roomy) i hi
 
           ring-front : getD (rowAt n c s i .queue) (q .head) 0 ≡ v
           unfolding rowAt

@@ -7,7 +7,7 @@ use Prim.Native.Nat.{ℕ, _≤_, _<_}
 use native.Mathlib.Omega.{arith}
 use lib.Dec.{ltb}
 use lib.ListN.{take, set}
-use borrow.Author.Tests.{le-leb, lt-ltb, le-ltb, leb-true}
+use borrow.Author.Tests.{le-leb, lt-ltb, le-ltb}
 use Rattle.ring.specs.Ring.{queued}
 use Rattle.rules.specs.Table as model
 use Rattle.rules.specs.Table.{Table, put, slotOf, become}
@@ -23,15 +23,15 @@ use Rattle.storage.specs.declared.State.{State}
 use Rattle.storage.specs.declared.State.the-variants.{Closed, Unbound, Bound, Listening, Connected}
 use Rattle.storage.specs.declared.Listener.{Listener}
 use Rattle.storage.specs.declared.Connection.{Connection}
-use Rattle.storage.proofs.Coding.{back}
+use Rattle.storage.proofs.Coding.{back, listening-inj, loadedAt}
 use Rattle.table.specs.Formed.{rangesWell}
 use Rattle.promise.specs.Answers.{refusedWith, acceptedWith}
 use Rattle.promise.specs.Hidden.{hiddenIn, hiddenAfter, fromQueue, roomAfter}
 use Rattle.promise.specs.Promise.{Lists, Stored, Done}
 use Rattle.promise.specs.declared.Answer.{Answer}
-use Rattle.promise.proofs.Known.{Known, refused-done, listener-at, queue-stays}
+use Rattle.promise.proofs.Known.{Known, refused-done, listener-at, queue-stays, bound-range}
 use Rattle.promise.proofs.Live.{stale-run, live-run, not-closed}
-use Rattle.promise.proofs.Kept.{Keeps, other-state, listening-inj}
+use Rattle.promise.proofs.Kept.{Keeps, other-state}
 use Rattle.promise.proofs.Changed.{Fit, fields-listening, accepted-done, cell-stored}
 use Rattle.promise.proofs.Called.{Called, called, become-is}
 
@@ -48,10 +48,6 @@ listen-again q k = record { name = q .name; backlog = k; head = q .head; pending
 pub range-is : (n c : ℕ) (q : Listener) → q .name ≤ 255 → q .backlog < 4294967296 → q .head < n → q .pending ≤ n → rangesWell n c (Listening q) ≡ true
 unfolding rangesWell
 range-is n c q a b d e = rw (le-leb (q .name) 255 a, lt-ltb (q .backlog) 4294967296 b, lt-ltb (q .head) n d, le-leb (q .pending) n e)
-
-bound-range : (n c m : ℕ) → rangesWell n c (Bound m) ≡ true → m ≤ 255
-unfolding rangesWell
-bound-range n c m e = leb-true m 255 e
 
 bound-fit : (n c g m k : ℕ) (r : Row) → stateOf (r .cell) ≡ Bound m → rangesWell n c (Listening (first-listen m k)) ≡ true → Fit n c r (withCell (cellOf g (Listening (first-listen m k))) r)
 unfolding hiddenIn hiddenAfter fromQueue roomAfter showIn cellOf stateOf
@@ -107,7 +103,7 @@ module _ (n c : ℕ) (s : Store) (l : Lists) (h k : ℕ) (r : Answer) (b : Bool)
   unfolding run
   listen-stale d er = refused-done _ 1 n c s l r (stale-run n c s h b _ eb d) (λ z. omega arith) er
 
-  module _ (lv : not b ≡ false) (i : ℕ) (ei : i ≡ slotOf h) (x : Slot) (ex : x ≡ record { generation = cellAt (s .words) i .generation; state = stateOf (cellAt (s .words) i) }) where
+  module _ (lv : not b ≡ false) (i : ℕ) (ei : i ≡ slotOf h) (x : Slot) (ex : x ≡ loadedAt (s .words) i) where
     at-state : (σ : State) → x .state ≡ σ → Called n c s h i (x .generation) σ
     at-state σ es = called n c s h b i x σ eb lv ei ex es
 

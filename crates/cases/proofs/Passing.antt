@@ -6,23 +6,25 @@ use native.Mathlib.Decide.{ℕ-discrete as decEq}
 use native.Mathlib.Nat.{le-of-eq, le-trans}
 use native.Mathlib.Omega.{arith}
 use mathlib.Core.Bool.{Bool, true, false, cond, not, _&&_, _||_, false≢true, and-false}
-use mathlib.Core.List.{List, [], _∷_, _++_, map, append-nil, append-assoc}
+use mathlib.Core.List.{List, [], _∷_, _++_, append-nil, append-assoc}
 use lib.IntN.{ℤ}
 use lib.ListN.{length, take, drop, take-append-drop, length-append, length-take}
-use lib.Seq.{take-all, take-length, length-take-le, sets}
+use lib.Seq.{length-take-le, sets}
 use lib.Dec.{eqb}
 use borrow.Author.Tests.{eq-eqb, ne-eqb, not-false}
 use Rattle.laws.proofs.Tests.{cond-both, less-or, or-right}
-use Rattle.rules.proofs.Model.{Table, fresh, State, Inbox, Group, Call, Outcome, Policy, refuse, refuseIf, answer, at, slotOf, handleAt, isOpen, isLive, stateOf, become, give, enter, isNil, allItems, append, group, others, upTo, moved, nearer, rest, handed, released, room, nothing, holder, freeSlot, newHandle, connected, reach, drained, drain, send, queued, closeEnds, closeAll, kept, doSocket, doBind, doListen, doAccept, doConnect, doSend, doShutdown, doClose, onLive, onName, shutsRead, shutsWrite, run, after}
+use Rattle.rules.proofs.Model.{Table, fresh, State, Inbox, Group, Call, Outcome, Policy, refuse, refuseIf, answer, at, slotOf, handleAt, isOpen, isLive, stateOf, become, give, enter, isNil, allItems, append, group, others, moved, rest, handed, released, room, nothing, holder, freeSlot, newHandle, connected, reach, drained, drain, send, queued, closeEnds, closeAll, kept, doSocket, doBind, doListen, doAccept, doConnect, doSend, doShutdown, doClose, onLive, onName, shutsRead, shutsWrite, run, after}
 use Rattle.rules.proofs.Lines.{model, groups, h2}
 use Rattle.rules.proofs.Frame.{field-put, live-open, open-at, found-used, unbound-not-listening, free-unused, enter-open, state-give, become-at, state-become-same, gen-become, gen-enter, open-handle, open-become, open-give, at-enter, cons-nil}
 use Rattle.rules.proofs.Walk.{Steps, walk}
 use Rattle.rules.proofs.Sized.{sized-run}
 use Rattle.rules.proofs.Wf.{steady-give, steady-closeAll}
-use Rattle.rules.proofs.InboxOk.{InboxOk}
+use Rattle.rules.proofs.InboxOk.{InboxOk, upTo-le, items-append, items-nearer}
 use Rattle.rules.proofs.Ends.{closeAll-old, StateOk, Inboxes}
 use Rattle.rules.proofs.Moves.{tells-run}
 use Rattle.rules.proofs.WfRun.{none-open}
+use Rattle.inbox.proofs.Shows.{take-least}
+use Rattle.inbox.proofs.Stream.{each-once, items-split}
 use Rattle.storage.specs.Rows.{Store}
 use Rattle.storage.specs.View.{view}
 use Rattle.table.specs.Formed.{formed}
@@ -48,38 +50,9 @@ cond-nil : (b : Bool) → _≡_ {A = List ℕ} (cond b [] []) []
 cond-nil true = refl
 cond-nil false = refl
 
-take-min : (n : ℕ) (l : List ℕ) → take (min n (length l)) l ≡ take n l
-take-min n l = go (less-or n (length l))
-  where
-    go : (n < length l) ⊎ (length l ≤ n) → take (min n (length l)) l ≡ take n l
-    go (inl h) = let e : min n (length l) ≡ n = omega arith in ap (λ (k : ℕ). take k l) e
-    go (inr h) = let e : min n (length l) ≡ length l = omega arith in ap (λ (k : ℕ). take k l) e ∙ take-length l ∙ sym (take-all n l h)
-
-items-append : (a b : List Group) → allItems (a ++ b) ≡ allItems a ++ allItems b
-unfolding allItems
-items-append [] b = refl
-items-append (x ∷ a) b = ap (λ (l : List ℕ). x .items ++ l) (items-append a b) ∙ sym (append-assoc (x .items) (allItems a) (allItems b))
-
-items-nearer : (k : ℕ) (a : List Group) → allItems (map (nearer k) a) ≡ allItems a
-unfolding allItems nearer
-items-nearer k [] = refl
-items-nearer k (x ∷ a) = ap (λ (l : List ℕ). x .items ++ l) (items-nearer k a)
-
--- the group at the first byte, and the others
-items-group : (a : List Group) → group a ++ allItems (others a) ≡ allItems a
-unfolding allItems group others
-items-group [] = refl
-items-group (x ∷ a) = go (eqb (x .place) 0)
-  where
-    go : (b : Bool) → cond b (x .items) [] ++ allItems (cond b a (x ∷ a)) ≡ x .items ++ allItems a
-    go true = refl
-    go false = refl
-
--- what is handed over and what is released
-items-policy : (p : Policy) (its : List ℕ) → handed p its ++ released p its ≡ its
-unfolding handed released
-items-policy Policy.Drop its = refl
-items-policy (Policy.Take m) its = take-append-drop m its
+-- what only h has is nothing at another
+elsewhere : (g h : ℕ) (a : List ℕ) → h ≢ g → cond (eqb h g) a [] ≡ []
+elsewhere g h a n = ap (λ (b : Bool). cond b a []) (ne-eqb h g n)
 
 items-sent : (p : ℕ) (its : List ℕ) → allItems (cond (isNil its) [] (record { place = p; items = its } ∷ [])) ≡ its
 unfolding allItems isNil
@@ -276,9 +249,6 @@ module _ (t : Table) (fit : length (t .slots) ≤ 1024) (g : ℕ) (o : isOpen t 
   here-cond : (a : List ℕ) → cond (eqb g g) a [] ≡ a
   here-cond a = ap (λ (b : Bool). cond b a []) (eq-eqb g g refl)
 
-  there-cond : (h : ℕ) (a : List ℕ) → h ≢ g → cond (eqb h g) a [] ≡ []
-  there-cond h a n = ap (λ (b : Bool). cond b a []) (ne-eqb h g n)
-
   -- another socket changes
   held-other : (h : ℕ) (σ : State) → isOpen t h ≡ true → h ≢ g → held (become t h σ) g ≡ held t g
   held-other h σ a n = ⊎-elim (λ z. absurd (n (sym (z .0)))) (λ z. held-by t (become t h σ) g (z .1)) (become-at t h σ g a o)
@@ -295,14 +265,14 @@ module _ (t : Table) (fit : length (t .slots) ≤ 1024) (g : ℕ) (o : isOpen t 
         (held-same t g (State.Connected p j x z) o)
         (k .in-bytes u) (k .in-items u) (k .out-bytes u ∙ here-cond _) (k .dropped u) (k .out-items u ∙ here-cond _)
         (append-nil (i .bytes) ∙ sym (take-append-drop (moved i size) (i .bytes)) ∙ ap (λ (l : List ℕ). l ++ drop (moved i size) (i .bytes)) (sym (append-nil (take (moved i size) (i .bytes)))))
-        (append-nil (allItems (i .groups)) ∙ sym (items-group (i .groups))
-        ∙ ap₂ _++_ (sym (items-policy policy (group (i .groups)))) (sym (items-nearer (moved i size) (others (i .groups)))))
+        (append-nil (allItems (i .groups)) ∙ sym (items-split (i .groups))
+        ∙ ap₂ _++_ (sym (each-once policy (group (i .groups)))) (sym (items-nearer (moved i size) (others (i .groups)))))
 
     take-there : (h : ℕ) → isLive t h ≡ true → h ≢ g → Takes t y h g → Passes t y (drained t h size policy p i x z) g
     unfolding drained
     take-there h l n k =
         let u : Outcome = drained t h size policy p i x z in
-        still y u (k .in-bytes u) (k .in-items u) (k .out-bytes u ∙ there-cond h _ n) (k .dropped u) (k .out-items u ∙ there-cond h _ n) (held-other h _ (live-open t h l) n)
+        still y u (k .in-bytes u) (k .in-items u) (k .out-bytes u ∙ elsewhere g h _ n) (k .dropped u) (k .out-items u ∙ elsewhere g h _ n) (held-other h _ (live-open t h l) n)
 
     take-at : (h : ℕ) → isLive t h ≡ true → stateOf t h ≡ State.Connected p i x z → Takes t y h g → Passes t y (drained t h size policy p i x z) g
     take-at h l e k =
@@ -339,7 +309,7 @@ module _ (t : Table) (fit : length (t .slots) ≤ 1024) (g : ℕ) (o : isOpen t 
         moves-to y u i j (take (room t i) new) its [] [] []
         (held-is t g (State.Connected b i x z) e)
         (held-same t g (State.Connected b j x z) o)
-        (k .in-bytes u ∙ ap (λ (d : Bool). cond d (take (min (room t i) (length new)) new) []) f ∙ take-min (room t i) new)
+        (k .in-bytes u ∙ ap (λ (d : Bool). cond d (take (min (room t i) (length new)) new) []) f ∙ take-least (room t i) new)
         (k .in-items u ∙ ap (λ (d : Bool). cond d its []) f)
         (k .out-bytes u) (k .dropped u) (k .out-items u)
         refl
@@ -427,7 +397,7 @@ module _ (t : Table) (fit : length (t .slots) ≤ 1024) (g : ℕ) (o : isOpen t 
     shut-there h rd l n =
         still (Call.Shutdown h how) (doShutdown t h rd wr (State.Connected p i x z)) refl refl refl
         (ap (λ (a : Bool). cond (a && shutsRead how) (bytesAt t g) []) (ne-eqb h g n))
-        (there-cond h _ n)
+        (elsewhere g h _ n)
         (held-shut h rd ∙ held-other h _ (live-open t h l) n)
 
     shut-at : (h : ℕ) (rd : Bool) → shutsRead how ≡ rd → isLive t h ≡ true → stateOf t h ≡ State.Connected p i x z
@@ -570,9 +540,6 @@ module _ (t : Table) (g : ℕ) (n : isOpen t g ≡ false) where
   silent-if y true k u e f = silent-refused t g y k e
   silent-if y false k u e f = f refl
 
-  elsewhere : (h : ℕ) (a : List ℕ) → h ≢ g → cond (eqb h g) a [] ≡ []
-  elsewhere h a e = ap (λ (b : Bool). cond b a []) (ne-eqb h g e)
-
   module _ (y : Call) (h : ℕ) (new its : List ℕ) (k : Sends t y h new its g) where
     not-there : (u : Outcome) (a : List ℕ) → sendsTo g (stateOf t h) ≡ false → cond (reaches t h u g) a [] ≡ []
     unfolding reaches
@@ -608,9 +575,9 @@ module _ (t : Table) (g : ℕ) (n : isOpen t g ≡ false) where
   silent (Call.Accept h) = record { in-bytes = refl; in-items = refl; out-bytes = refl; dropped = refl; out-items = refl }
   silent (Call.Connect h m) = record { in-bytes = refl; in-items = refl; out-bytes = refl; dropped = refl; out-items = refl }
   silent (Call.Read h size) =
-      silent-mine _ h _ λ e v. record { in-bytes = refl; in-items = refl; out-bytes = elsewhere h _ e; dropped = refl; out-items = elsewhere h _ e }
+      silent-mine _ h _ λ e v. record { in-bytes = refl; in-items = refl; out-bytes = elsewhere g h _ e; dropped = refl; out-items = elsewhere g h _ e }
   silent (Call.Recvmsg h size most) =
-      silent-mine _ h _ λ e v. record { in-bytes = refl; in-items = refl; out-bytes = elsewhere h _ e; dropped = refl; out-items = elsewhere h _ e }
+      silent-mine _ h _ λ e v. record { in-bytes = refl; in-items = refl; out-bytes = elsewhere g h _ e; dropped = refl; out-items = elsewhere g h _ e }
   silent (Call.Write h from) =
       silent-live _ h _ (silent-send _ h from []
       (record { in-bytes = λ u. refl; in-items = λ u. sym (cond-nil (reaches t h u g)); out-bytes = λ u. refl; dropped = λ u. refl; out-items = λ u. refl })
@@ -626,7 +593,7 @@ module _ (t : Table) (g : ℕ) (n : isOpen t g ≡ false) where
         in-items = refl;
         out-bytes = refl;
         dropped = ap (λ (b : Bool). cond (eqb (v .no) 0 && (b && shutsRead how)) (bytesAt t g) []) (ne-eqb h g e) ∙ ap (λ (b : Bool). cond b (bytesAt t g) []) (and-false (eqb (v .no) 0));
-        out-items = elsewhere h _ e;
+        out-items = elsewhere g h _ e;
       }
   silent (Call.Close h) = record { in-bytes = refl; in-items = refl; out-bytes = refl; dropped = refl; out-items = refl }
   silent (Call.Readiness h) = record { in-bytes = refl; in-items = refl; out-bytes = refl; dropped = refl; out-items = refl }
@@ -773,19 +740,14 @@ unfolding refuseIf
 gives-if t true k u size most f = gives-refuse t k size most
 gives-if t false k u size most f = f refl
 
-upTo-le : (ms : List Group) (k : ℕ) → upTo ms k ≤ k
-unfolding upTo
-upTo-le [] k = omega arith
-upTo-le (m ∷ ms) k = omega arith
-
 moved-le : (i : Inbox) (size : ℕ) → (moved i size ≤ size) × (moved i size ≤ length (i .bytes))
 unfolding moved
 moved-le i size = let a = upTo-le (others (i .groups)) (min size (length (i .bytes))) in (omega arith, omega arith)
 
 freed-few : (policy : Policy) (ms : List Group) → length (released policy (group ms)) ≤ length (allItems ms)
 freed-few policy ms =
-    let a : length (handed policy (group ms) ++ released policy (group ms)) ≡ length (group ms) = ap length (items-policy policy (group ms)) in
-    let b : length (group ms ++ allItems (others ms)) ≡ length (allItems ms) = ap length (items-group ms) in
+    let a : length (handed policy (group ms) ++ released policy (group ms)) ≡ length (group ms) = ap length (each-once policy (group ms)) in
+    let b : length (group ms ++ allItems (others ms)) ≡ length (allItems ms) = ap length (items-split ms) in
     omega (arith, a, b, length-append (handed policy (group ms)) (released policy (group ms)), length-append (group ms) (allItems (others ms)))
 
 abbrev mostOf : Policy → ℕ

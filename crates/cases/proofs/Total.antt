@@ -22,7 +22,7 @@ use Rattle.storage.specs.View.{view}
 use Rattle.table.specs.Formed.{formed}
 use Rattle.promise.specs.Answers.{refusedWith}
 use Rattle.promise.specs.Promise.{lists}
-use Rattle.promise.specs.declared.Answer.{Answer}
+use Rattle.promise.proofs.Answering.{same-answer}
 use Rattle.cases.specs.Step.{Request, Result, outcomeOf, Allowed}
 
 -- ── What the rules answer ──
@@ -176,15 +176,6 @@ pub record Total (s : Store) (q : Request) (r : Result) : Type 0 where
   -- "A refusal returns its number, both counts 0, and no lent byte differs."
   pub refusing : r .answer .refusal ≢ 0 → Untouched s q r
 
-same-answer : (r : Answer) (e : ℕ) → r .refusal ≡ e → r .flags ≡ 0 → r .value ≡ 0 → r .items ≡ 0 → r .wakes ≡ 0 → r .releases ≡ 0 → r ≡ refusedWith e
-same-answer r e a b c d f g =
-    ap (λ (x : ℕ). the x (r .flags) (r .value) (r .items) (r .wakes) (r .releases)) a ∙ ap (λ (x : ℕ). the e x (r .value) (r .items) (r .wakes) (r .releases)) b
-    ∙ ap (λ (x : ℕ). the e 0 x (r .items) (r .wakes) (r .releases)) c ∙ ap (λ (x : ℕ). the e 0 0 x (r .wakes) (r .releases)) d
-    ∙ ap (λ (x : ℕ). the e 0 0 0 x (r .releases)) f ∙ ap (λ (x : ℕ). the e 0 0 0 0 x) g
-  where
-    the : ℕ → ℕ → ℕ → ℕ → ℕ → ℕ → Answer
-    the a b c d e f = record { refusal = a; flags = b; value = c; items = d; wakes = e; releases = f }
-
 pub total : (s : Store) (q : Request) (r : Result) → Allowed s q r → Total s q r
 total s q r a = go (entry-ruled (view (q .n) (q .c) s) (q .n) (q .c) _ (formed (q .n) (q .c) s) (q .call))
   where
@@ -208,7 +199,7 @@ total s q r a = go (entry-ruled (view (q .n) (q .c) s) (q .n) (q .c) _ (formed (
                 buf = a .fills .buffer ∙ ap (λ (x : Outcome). sets (q .buf) 0 (x .bytes)) o;
                 items = a .fills .item-list ∙ ap (λ (x : Outcome). sets (q .items) 0 (x .items)) o;
                 answer =
-                    same-answer (r .answer) (r .answer .refusal) refl (p .flags-are ∙ ap (λ (x : Outcome). x .flags) o) (p .value-is ∙ ap (λ (x : Outcome). x .value) o)
+                    same-answer (r .answer) (refusedWith (r .answer .refusal)) refl (p .flags-are ∙ ap (λ (x : Outcome). x .flags) o) (p .value-is ∙ ap (λ (x : Outcome). x .value) o)
                     (p .item-count ∙ ap (λ (x : Outcome). length (x .items)) o) (p .wake-count ∙ ap (λ (x : Outcome). length (x .wakes)) o)
                     (p .release-count ∙ ap (λ (x : Outcome). length (x .releases)) o);
               };

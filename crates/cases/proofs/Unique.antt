@@ -16,7 +16,7 @@ use Rattle.table.specs.Formed.{formed}
 use Rattle.table.specs.Admission.{storageFits, listsFit, admits, Admitted}
 use Rattle.table.proofs.Facts.{admitted}
 use Rattle.promise.specs.Promise.{lists, Stored}
-use Rattle.promise.specs.declared.Answer.{Answer}
+use Rattle.promise.proofs.Answering.{same-answer}
 use Rattle.promise.proofs.Known.{Known, known}
 use Rattle.cases.specs.Step.{Request, Result, outcomeOf, Allowed}
 use Rattle.cases.specs.Excepted.{SameBut}
@@ -34,17 +34,6 @@ pub record Agree (n c : ℕ) (r r′ : Result) : Type 0 where
   pub buf : r .buf ≡ r′ .buf
   pub items : r .items ≡ r′ .items
   pub store : SameBut n c (r .store) (r′ .store)
-
--- ── Answers and lists ──
-
-same-answer : (r r′ : Answer) → r .refusal ≡ r′ .refusal → r .flags ≡ r′ .flags → r .value ≡ r′ .value → r .items ≡ r′ .items → r .wakes ≡ r′ .wakes → r .releases ≡ r′ .releases → r ≡ r′
-same-answer r r′ a b c d e f =
-    ap (λ (x : ℕ). the x (r .flags) (r .value) (r .items) (r .wakes) (r .releases)) a ∙ ap (λ (x : ℕ). the (r′ .refusal) x (r .value) (r .items) (r .wakes) (r .releases)) b
-    ∙ ap (λ (x : ℕ). the (r′ .refusal) (r′ .flags) x (r .items) (r .wakes) (r .releases)) c ∙ ap (λ (x : ℕ). the (r′ .refusal) (r′ .flags) (r′ .value) x (r .wakes) (r .releases)) d
-    ∙ ap (λ (x : ℕ). the (r′ .refusal) (r′ .flags) (r′ .value) (r′ .items) x (r .releases)) e ∙ ap (λ (x : ℕ). the (r′ .refusal) (r′ .flags) (r′ .value) (r′ .items) (r′ .wakes) x) f
-  where
-    the : ℕ → ℕ → ℕ → ℕ → ℕ → ℕ → Answer
-    the a b c d e f = record { refusal = a; flags = b; value = c; items = d; wakes = e; releases = f }
 
 -- ── An accepted call was admitted ──
 

@@ -21,7 +21,7 @@ use Rattle.rules.specs.Table as model
 use Rattle.rules.specs.Table.{at, handle, slotOf}
 use Rattle.rules.specs.Inbox.{nothing, allItems}
 use Rattle.storage.specs.Layout.{cellBase, placesBase, nameBase, tokensBase}
-use Rattle.storage.specs.Cells.{cellAt, connectionOf, stateOf}
+use Rattle.storage.specs.Cells.{cellAt, connectionOf, stateOf, listenerOf}
 use Rattle.storage.specs.Rows.{Store, Row, rowAt, Roomy}
 use Rattle.storage.specs.View.{showIn, view}
 use Rattle.storage.specs.declared.Cell.{Cell}
@@ -29,15 +29,15 @@ use Rattle.storage.specs.declared.State.{State}
 use Rattle.storage.specs.declared.State.the-variants.{Closed, Unbound, Bound, Listening, Connected}
 use Rattle.storage.specs.declared.Listener.{Listener}
 use Rattle.storage.specs.declared.Connection.{Connection}
-use Rattle.storage.proofs.Coding.{says-unbound, says-bound, says-listening, says-connected, says-closed}
+use Rattle.storage.proofs.Coding.{says-unbound, says-bound, says-listening, says-connected, says-closed, listening-inj, connected-inj}
 use Rattle.storage.proofs.Pasted.{length-part}
 use Rattle.storage.proofs.Viewed.{seen, gen-at}
 use Rattle.table.specs.Formed.{noName, noQueue, noPair, pairFields, fieldsWell, ahead, standsAt, tiedState, tied, queueIn, rangesWell}
-use Rattle.table.proofs.Links.{Entry, entries-of, queue-long, queue-at}
+use Rattle.table.proofs.Links.{Entry, entries-of, queue-long, queue-at, place-ahead, queue-length}
 use Rattle.table.proofs.OwnNumbers.{fields-unbound, fields-bound, fields-listening, fields-connected, fields-other}
 use Rattle.promise.specs.Hidden.{Hidden, hiddenIn}
-use Rattle.promise.proofs.Known.{Known, listener-range, inbox-range}
-use Rattle.cases.proofs.UniqueRings.{ring-at, ahead-back, same-places}
+use Rattle.promise.proofs.Known.{Known, listener-range, inbox-range, bound-range}
+use Rattle.cases.proofs.UniqueRings.{ring-at, same-places}
 
 -- ── Tags ──
 
@@ -56,9 +56,6 @@ by-tag k f p₀ p₁ p₂ p₃ p₄ =
         ]
       ]
     ]
-
-abbrev pub listenerOf : Cell → Listener
-listenerOf k = record { name = k .name; backlog = k .backlog; head = k .head; pending = k .pending }
 
 module _ (k : Cell) where
   pub is-closed : k .tag ≡ 0 → stateOf k ≡ Closed
@@ -189,10 +186,6 @@ pair-parts k f e = and-three (noName k) (noQueue k) (pairFields k) (fields-conne
 pair-of : (k : Cell) → fieldsWell k ≡ true → k .tag ≡ 4 → PairFields k
 pair-of k f e = pair-fields k (pair-parts k f e .2)
 
-name-range : (n c m : ℕ) → rangesWell n c (Bound m) ≡ true → m ≤ 255
-unfolding rangesWell
-name-range n c m e = leb-true m 255 e
-
 -- ── Two cells ──
 
 pub record Same (k m : Cell) : Type 0 where
@@ -296,26 +289,6 @@ one-flag a b ha hb e =
     some-one zero n = absurd (n refl)
     some-one (suc x) n = omega arith
 
-connected-inj : {a b : Connection} → Connected a ≡ Connected b → a ≡ b
-connected-inj {a} {b} e = ap (of a) e
-  where
-    of : Connection → State → Connection
-    of d Closed = d
-    of d Unbound = d
-    of d (Bound m) = d
-    of d (Listening q) = d
-    of d (Connected k) = k
-
-listening-inj : {a b : Listener} → Listening a ≡ Listening b → a ≡ b
-listening-inj {a} {b} e = ap (of a) e
-  where
-    of : Listener → State → Listener
-    of d Closed = d
-    of d Unbound = d
-    of d (Bound m) = d
-    of d (Listening q) = q
-    of d (Connected k) = d
-
 -- ── Where a server stands ──
 
 record Stands (n : ℕ) (w : List ℕ) (i : ℕ) (k : Connection) : Type 0 where
@@ -414,9 +387,9 @@ module _ (n c : ℕ) (s s′ : Store) (a : Alike n c s s′) where
     same-pending =
         let y = l₁ in
         let z = l₂ in
-        sym (queued-length (queueIn n (s .words) i) (kc i .head) (let q = queue-long n c s (a .left .roomy) (a .left .good) i h in omega arith) (kc i .pending) (let q = queue-long n c s (a .left .roomy) (a .left .good) i h in omega arith))
+        sym (queue-length n c s (a .left .roomy) i (listenerOf (kc i)) h (y .2) (y .3))
         ∙ ap length same-line
-        ∙ queued-length (queueIn n (s′ .words) i) (mc i .head) (let q = queue-long n c s′ (a .right .roomy) (a .right .good) i h in omega arith) (mc i .pending) (let q = queue-long n c s′ (a .right .roomy) (a .right .good) i h in omega arith)
+        ∙ queue-length n c s′ (a .right .roomy) i (listenerOf (mc i)) h (z .2) (z .3)
 
   -- ── Names ──
 
@@ -575,9 +548,9 @@ module _ (n c : ℕ) (s s′ : Store) (a : Alike n c s s′) where
           let v = l₂ l (st .within) tag-by in
           let hp = same-pending l (st .within) tag-by in
           let x = hj in
-          sym (queue-at n c s′ (a .right .roomy) (a .right .good) l (listenerOf (mc l)) j (st .within) (v .2) (v .3) (omega arith))
+          sym (queue-at n c s′ (a .right .roomy) l (listenerOf (mc l)) j (st .within) (v .2) (v .3) (omega arith))
           ∙ ap (λ (q : List ℕ). getD q j 0) (sym (same-line l (st .within) tag-by))
-          ∙ ring-at (queueIn n (s .words) l) n (kc l .head) (kc l .pending) (kc i .place) (queue-long n c s (a .left .roomy) (a .left .good) l (st .within)) (u .2) (u .3) (st .inside) hj
+          ∙ ring-at (queueIn n (s .words) l) n (kc l .head) (kc l .pending) (kc i .place) (queue-long n c s (a .left .roomy) l (st .within)) (u .2) (u .3) (st .inside) hj
           ∙ st .there
 
       slot-is : slotOf (handle (kc i .generation) i) ≡ i
@@ -600,7 +573,7 @@ module _ (n c : ℕ) (s s′ : Store) (a : Alike n c s s′) where
 
       place-same : kc i .place ≡ mc i .place
       place-same =
-          sym (ahead-back n (kc l .head) (kc i .place) (l₁ l (st .within) tag-by .2) (st .inside))
+          sym (place-ahead n (kc l .head) (kc i .place) (l₁ l (st .within) tag-by .2) (st .inside))
           ∙ ap (λ (x : ℕ). placeOf n (x + ahead n (kc l .head) (kc i .place))) (same-head l (st .within) tag-by)
           ∙ sym (ap (λ (x : Connection). x .place) server-is ∙ en .stands-there)
 
@@ -660,8 +633,8 @@ module _ (n c : ℕ) (s s′ : Store) (a : Alike n c s s′) where
       let y = no-queue (mc i) (p′ .0) in
       plain (kc i) (mc i) (no-pair (kc i) (p .1)) (no-pair (mc i) (p′ .1)) (same-generation i h) (same-tag i h)
       (name-length i (kc i .name) (mc i .name) h
-      (name-range n c (kc i .name) (subst (λ (σ : State). rangesWell n c σ ≡ true) (is-bound (kc i) e) (a .left .ranges i h)))
-      (name-range n c (mc i .name) (subst (λ (σ : State). rangesWell n c σ ≡ true) (is-bound (mc i) e′) (a .right .ranges i h)))
+      (bound-range n c (kc i .name) (subst (λ (σ : State). rangesWell n c σ ≡ true) (is-bound (kc i) e) (a .left .ranges i h)))
+      (bound-range n c (mc i .name) (subst (λ (σ : State). rangesWell n c σ ≡ true) (is-bound (mc i) e′) (a .right .ranges i h)))
       (ap (λ (x : model.Slot). nameIn (x .state)) (seen-both i _ _ h (is-bound (kc i) e) (is-bound (mc i) e′))))
       (x .backlog ∙ sym (y .backlog)) (x .head ∙ sym (y .head)) (x .pending ∙ sym (y .pending))
 

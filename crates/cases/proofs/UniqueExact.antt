@@ -28,7 +28,7 @@ use Rattle.storage.specs.declared.State.{State}
 use Rattle.storage.specs.declared.State.the-variants.{Closed, Unbound, Bound, Listening, Connected}
 use Rattle.storage.specs.declared.Listener.{Listener}
 use Rattle.storage.specs.declared.Connection.{Connection}
-use Rattle.storage.proofs.Pasted.{length-part, part-at}
+use Rattle.storage.proofs.Pasted.{length-part, part-at, same-cell}
 use Rattle.storage.proofs.Strides.{row-before}
 use Rattle.storage.proofs.Viewed.{at-view, size-view}
 use Rattle.storage.proofs.Around.{around-then, roomy-around}
@@ -125,35 +125,6 @@ drop-same : (l l′ : List ℕ) (b : ℕ) → length l ≡ length l′ → ((k :
 drop-same l l′ b h e =
     ext-getD 0 (drop b l) (drop b l′) (length-drop b l ∙ ap (λ (x : ℕ). x - b) h ∙ sym (length-drop b l′))
     (λ j hj. getD-drop b l j 0 ∙ e (b + j) (omega arith) ∙ sym (getD-drop b l′ j 0))
-
--- ── Cells ──
-
--- the words of a cell, one by one
-same-cell : (w w′ : List ℕ) (i : ℕ) → ((j : ℕ) → j < 16 → getD w (cellBase i + j) 0 ≡ getD w′ (cellBase i + j) 0) → cellAt w i ≡ cellAt w′ i
-unfolding cellAt
-same-cell w w′ i e =
-    let p : ℕ → ℕ = λ j. getD w (cellBase i + j) 0 in
-    let q : ℕ → ℕ = λ j. getD w′ (cellBase i + j) 0 in
-    ap (λ (x : ℕ). the x (p 1) (p 2) (p 3) (p 4) (p 5) (p 6) (p 7) (p 8) (p 9) (p 10) (p 11) (p 12) (p 13) (p 14) (p 15)) (e 0 (omega arith))
-    ∙ ap (λ (x : ℕ). the (q 0) x (p 2) (p 3) (p 4) (p 5) (p 6) (p 7) (p 8) (p 9) (p 10) (p 11) (p 12) (p 13) (p 14) (p 15)) (e 1 (omega arith))
-    ∙ ap (λ (x : ℕ). the (q 0) (q 1) x (p 3) (p 4) (p 5) (p 6) (p 7) (p 8) (p 9) (p 10) (p 11) (p 12) (p 13) (p 14) (p 15)) (e 2 (omega arith))
-    ∙ ap (λ (x : ℕ). the (q 0) (q 1) (q 2) x (p 4) (p 5) (p 6) (p 7) (p 8) (p 9) (p 10) (p 11) (p 12) (p 13) (p 14) (p 15)) (e 3 (omega arith))
-    ∙ ap (λ (x : ℕ). the (q 0) (q 1) (q 2) (q 3) x (p 5) (p 6) (p 7) (p 8) (p 9) (p 10) (p 11) (p 12) (p 13) (p 14) (p 15)) (e 4 (omega arith))
-    ∙ ap (λ (x : ℕ). the (q 0) (q 1) (q 2) (q 3) (q 4) x (p 6) (p 7) (p 8) (p 9) (p 10) (p 11) (p 12) (p 13) (p 14) (p 15)) (e 5 (omega arith))
-    ∙ ap (λ (x : ℕ). the (q 0) (q 1) (q 2) (q 3) (q 4) (q 5) x (p 7) (p 8) (p 9) (p 10) (p 11) (p 12) (p 13) (p 14) (p 15)) (e 6 (omega arith))
-    ∙ ap (λ (x : ℕ). the (q 0) (q 1) (q 2) (q 3) (q 4) (q 5) (q 6) x (p 8) (p 9) (p 10) (p 11) (p 12) (p 13) (p 14) (p 15)) (e 7 (omega arith))
-    ∙ ap (λ (x : ℕ). the (q 0) (q 1) (q 2) (q 3) (q 4) (q 5) (q 6) (q 7) x (p 9) (p 10) (p 11) (p 12) (p 13) (p 14) (p 15)) (e 8 (omega arith))
-    ∙ ap (λ (x : ℕ). the (q 0) (q 1) (q 2) (q 3) (q 4) (q 5) (q 6) (q 7) (q 8) x (p 10) (p 11) (p 12) (p 13) (p 14) (p 15)) (e 9 (omega arith))
-    ∙ ap (λ (x : ℕ). the (q 0) (q 1) (q 2) (q 3) (q 4) (q 5) (q 6) (q 7) (q 8) (q 9) x (p 11) (p 12) (p 13) (p 14) (p 15)) (e 10 (omega arith))
-    ∙ ap (λ (x : ℕ). the (q 0) (q 1) (q 2) (q 3) (q 4) (q 5) (q 6) (q 7) (q 8) (q 9) (q 10) x (p 12) (p 13) (p 14) (p 15)) (e 11 (omega arith))
-    ∙ ap (λ (x : ℕ). the (q 0) (q 1) (q 2) (q 3) (q 4) (q 5) (q 6) (q 7) (q 8) (q 9) (q 10) (q 11) x (p 13) (p 14) (p 15)) (e 12 (omega arith))
-    ∙ ap (λ (x : ℕ). the (q 0) (q 1) (q 2) (q 3) (q 4) (q 5) (q 6) (q 7) (q 8) (q 9) (q 10) (q 11) (q 12) x (p 14) (p 15)) (e 13 (omega arith))
-    ∙ ap (λ (x : ℕ). the (q 0) (q 1) (q 2) (q 3) (q 4) (q 5) (q 6) (q 7) (q 8) (q 9) (q 10) (q 11) (q 12) (q 13) x (p 15)) (e 14 (omega arith))
-    ∙ ap (λ (x : ℕ). the (q 0) (q 1) (q 2) (q 3) (q 4) (q 5) (q 6) (q 7) (q 8) (q 9) (q 10) (q 11) (q 12) (q 13) (q 14) x) (e 15 (omega arith))
-  where
-    the : ℕ → ℕ → ℕ → ℕ → ℕ → ℕ → ℕ → ℕ → ℕ → ℕ → ℕ → ℕ → ℕ → ℕ → ℕ → ℕ → Cell
-    the a₀ a₁ a₂ a₃ a₄ a₅ a₆ a₇ a₈ a₉ b₀ b₁ b₂ b₃ b₄ b₅ =
-        record { generation = a₀; tag = a₁; name = a₂; backlog = a₃; head = a₄; pending = a₅; peer = a₆; «inbox_closed» = a₇; «outbox_closed» = a₈; byte = a₉; «written_total» = b₀; «read_total» = b₁; first = b₂; items = b₃; waits = b₄; place = b₅ }
 
 -- ── A storage that differs at excepted cells alone ──
 

@@ -134,8 +134,8 @@ module _ (n c : ℕ) (s s′ : Store) (a : Alike n c s s′) (rooms : (i : ℕ) 
       same-line n c s s′ a i h (p .0)
       ∙ ap₂ (queued (queueIn n (s′ .words) i)) (sym (same-head n c s s′ a i h (p .0))) (sym (same-pending n c s s′ a i h (p .0))) in
       sym (part-at (queueBase n i) n (s .words) j hj)
-      ∙ ring-same (queueIn n (s .words) i) (queueIn n (s′ .words) i) n (m .head) (m .pending) j (queue-long n c s (a .left .roomy) (a .left .good) i h)
-      (queue-long n c s′ (a .right .roomy) (a .right .good) i h) (u .2) (u .3) hj (p .1) same
+      ∙ ring-same (queueIn n (s .words) i) (queueIn n (s′ .words) i) n (m .head) (m .pending) j (queue-long n c s (a .left .roomy) i h)
+      (queue-long n c s′ (a .right .roomy) i h) (u .2) (u .3) hj (p .1) same
       ∙ part-at (queueBase n i) n (s′ .words) j hj
 
   -- a byte of its inbox

@@ -10,9 +10,8 @@ use lib.Dec.{leb, eqb}
 use lib.ListN.{length, getD, replicate}
 use borrow.Author.Tests.{le-leb, lt-leb, eqb-true}
 use Rattle.laws.proofs.Tests.{cond-both, less-or}
-use Rattle.ring.specs.Ring.{placeOf, queued}
-use Rattle.ring.proofs.Queued.{Place, by-order, queued-at}
-use Rattle.ring.proofs.Copying.{place-is}
+use Rattle.ring.specs.Ring.{queued}
+use Rattle.ring.proofs.Queued.{Place, queued-at}
 use Rattle.inbox.specs.View.{dist, join, groupsOf}
 use Rattle.rules.specs.Table.{Group}
 use Rattle.table.specs.Formed.{ahead}
@@ -24,9 +23,9 @@ pub record Ahead (n a j : ℕ) : Type 0 where
   pub far : ahead n a j < n
   pub there : Place n (a + ahead n a j) j
 
-pub place-ahead : (n a j : ℕ) → a < n → j < n → Ahead n a j
+pub ahead-there : (n a j : ℕ) → a < n → j < n → Ahead n a j
 unfolding ahead
-place-ahead n a j ha hj = go (less-or j a)
+ahead-there n a j ha hj = go (less-or j a)
   where
     go : (j < a) ⊎ (a ≤ j) → Ahead n a j
     go (inl h) =
@@ -36,15 +35,9 @@ place-ahead n a j ha hj = go (less-or j a)
         let e : cond (leb a j) (j - a) (j + n - a) ≡ j - a = rw (le-leb a j h) in
         record { far = omega arith; there = record { low = λ l. omega arith; high = λ u. omega arith } }
 
-pub place-one : (n k p q : ℕ) → Place n k p → Place n k q → p ≡ q
-place-one n k p q a b = by-order k n (λ l. a .low l ∙ sym (b .low l)) (λ u. let x = a .high u in let y = b .high u in omega arith)
-
-pub ahead-back : (n a j : ℕ) → a < n → j < n → placeOf n (a + ahead n a j) ≡ j
-ahead-back n a j ha hj = place-one n (a + ahead n a j) _ j (place-is n (a + ahead n a j) _ refl) (place-ahead n a j ha hj .there)
-
 -- what stands at place j of a ring, among what is queued from h on
 pub ring-at : (r : List ℕ) (c h m j : ℕ) → length r ≡ c → h < c → m ≤ c → j < c → ahead c h j < m → getD (queued r h m) (ahead c h j) 0 ≡ getD r j 0
-ring-at r c h m j l hh hm hj ha = queued-at r h (omega arith) m (ahead c h j) j ha (omega arith) (subst (λ (x : ℕ). Place x (h + ahead c h j) j) (sym l) (place-ahead c h j hh hj .there))
+ring-at r c h m j l hh hm hj ha = queued-at r h (omega arith) m (ahead c h j) j ha (omega arith) (subst (λ (x : ℕ). Place x (h + ahead c h j) j) (sym l) (ahead-there c h j hh hj .there))
 
 pub ring-same : (r r′ : List ℕ) (c h m j : ℕ) → length r ≡ c → length r′ ≡ c → h < c → m ≤ c → j < c → ahead c h j < m → queued r h m ≡ queued r′ h m → getD r j 0 ≡ getD r′ j 0
 ring-same r r′ c h m j l l′ hh hm hj ha e =

@@ -31,6 +31,7 @@ use Rattle.storage.specs.Finding.{openIn, liveIn}
 use Rattle.storage.specs.declared.Slot.{Slot}
 use Rattle.storage.specs.declared.State.the-variants.{Connected}
 use Rattle.storage.specs.declared.Connection.{Connection}
+use Rattle.storage.proofs.Coding.{loaded-generation, loaded-state, loadedAt}
 use Rattle.storage.proofs.Viewed.{open-view}
 use Rattle.table.specs.Admission.{Admitted}
 use Rattle.promise.specs.Hidden.{hiddenIn, inboxOn}
@@ -40,7 +41,7 @@ use Rattle.promise.specs.declared.Answer.{Answer}
 use Rattle.promise.proofs.Known.{Known, known, refused-done}
 use Rattle.promise.proofs.Changed.{cell-stored, unchanged}
 use Rattle.promise.proofs.Live.{Live, live, live-run, stale-run, state-seen}
-use Rattle.promise.proofs.Called.{loadedAt, Unconnected, unconnected}
+use Rattle.promise.proofs.Called.{Unconnected, unconnected}
 use Rattle.promise.proofs.Held.{ring-long, places-long, tokens-long, inboxIn, Sized, sized, Held, held, gone-hidden, placed-same, connected-fit, connected-keeps, connected-put}
 use Rattle.draining.specs.Parts.{Drains, nothingQueued, Wakes}
 
@@ -201,9 +202,6 @@ module _ {n c : ℕ} {w b t : List ℕ} {u v : ℕ} (a : Admitted n c (lent w b 
   lv = live n c (lent w b t) h true (sym e) refl
 
   module _ (slot : Slot) (es : slot ≡ loadedAt w i) where
-    loaded : slot ≡ loadedAt w (slotOf h)
-    loaded = es ∙ ap (loadedAt w) ei
-
     pub drains-apart : (policy : Policy) (buf items : List ℕ) (l : Lists) (r : Answer) → Unconnected (slot .state) → r ≡ refusedWith 9
         → Drains n c (lent w b t) (lent w b t) h policy buf buf items items l l r
     unfolding drain
@@ -212,14 +210,14 @@ module _ {n c : ℕ} {w b t : List ℕ} {u v : ℕ} (a : Admitted n c (lent w b 
         record {
           drains = λ call to.
               refused-drain n c (lent w b t) l r _ 9 buf items
-              (to ∙ ap (drain tb h (length buf) policy) (state-seen n c (lent w b t) h (slot .state) (lv .within) (sym (ap (λ (q : Slot). q .state) loaded)))
+              (to ∙ ap (drain tb h (length buf) policy) (state-seen n c (lent w b t) h (slot .state) (lv .within) (sym (loaded-state w ei es)))
               ∙ unconnected (λ σ. drain tb h (length buf) policy σ ≡ refuse tb 9) refl (λ m. refl) (λ m d q. refl) (rowAt n c (lent w b t) (slotOf h)) (cellAt w (slotOf h) .generation) (slot .state) k)
               (λ z. omega arith) er;
         }
 
     module _ (con : Connection) (ec : slot .state ≡ Connected con) where
       at-hand : Held n c (lent w b t) h (slotOf h) con
-      at-hand = held n c (lent w b t) h (slotOf h) con (known a) refl (lv .opened) (sym (ap (λ (q : Slot). q .state) loaded) ∙ ec)
+      at-hand = held n c (lent w b t) h (slotOf h) con (known a) refl (lv .opened) (sym (loaded-state w ei es) ∙ ec)
 
       pub take-asked : ((i < n) × Roomy n c (lent w b t) × (256 ≤ v)) × Well c (part (placesBase n i) 256 w) (con .inbox)
       unfolding rowAt
@@ -264,7 +262,7 @@ module _ {n c : ℕ} {w b t : List ℕ} {u v : ℕ} (a : Admitted n c (lent w b 
             drained-at n c w b t (known a) h con at-hand policy buf buf′ items items′ rel rel′ tk (λ y. ne (eq ∙ y))
             (subst (λ (j : ℕ). Takes (part (ringBase c j) c b) (part (placesBase n j) 256 w) (part (tokensBase j) 256 t) buf buf′ policy items items′ rel rel′ (con .inbox) tk) ei x)
             w₂ wk wk′ g z _
-            (ew ∙ ap₂ (λ (j : ℕ) (d : ℕ). storeAt w j (cellOf d (Connected (withInbox con (tk .inbox))))) ei (ap (λ (y : Slot). y .generation) loaded))
+            (ew ∙ ap₂ (λ (j : ℕ) (d : ℕ). storeAt w j (cellOf d (Connected (withInbox con (tk .inbox))))) ei (loaded-generation w ei es))
             (sym gone) wake refl
 
 -- ── read and recvmsg ──

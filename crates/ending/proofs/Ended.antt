@@ -26,9 +26,10 @@ use Rattle.storage.specs.declared.State.{State}
 use Rattle.storage.specs.declared.State.the-variants.{Closed, Unbound, Bound, Listening, Connected}
 use Rattle.storage.specs.declared.Listener.{Listener}
 use Rattle.storage.specs.declared.Connection.{Connection}
+use Rattle.storage.proofs.Coding.{loaded-generation, loaded-state, loadedAt}
 use Rattle.table.specs.Formed.{queueIn}
 use Rattle.table.specs.Admission.{Admitted}
-use Rattle.promise.specs.Answers.{refusedWith, acceptedWith}
+use Rattle.promise.specs.Answers.{refusedWith, acceptedWith, releasedWith}
 use Rattle.promise.specs.Promise.{Lists, lists, Done}
 use Rattle.promise.specs.declared.Answer.{Answer}
 use Rattle.promise.proofs.Known.{Known, known, refused-done, listener-at}
@@ -36,7 +37,7 @@ use Rattle.promise.proofs.Called.{Unconnected, not-connected}
 use Rattle.promise.proofs.Held.{inbox-in}
 use Rattle.promise.proofs.Live.{Live, live, not-closed, state-seen, stale-run}
 use Rattle.ending.specs.declared.Closing.{Closing}
-use Rattle.ending.specs.Leaving.{closedWith, peerIn, Ends, Fits, Serves, SoFar, connectionIn}
+use Rattle.ending.specs.Leaving.{peerIn, Ends, Fits, Serves, SoFar, connectionIn}
 use Rattle.ending.proofs.Leaving.{none-yet, one-more, first-left, all-done}
 use Rattle.ending.proofs.Listeners.{line, next-serves, next-closed, line-done}
 
@@ -73,9 +74,9 @@ module _ (n c i g : ℕ) (k : Connection) (w w′ t wk rl rl′ : List ℕ) (d :
 
 -- ── end_server ──
 
-module _ (n c : ℕ) (w : List ℕ) (x i : ℕ) (sv : Serves n c w x) (ei : i ≡ slotOf x) (sl : Slot) (es : sl ≡ record { generation = cellAt w i .generation; state = stateOf (cellAt w i) }) where
+module _ (n c : ℕ) (w : List ℕ) (x i : ℕ) (sv : Serves n c w x) (ei : i ≡ slotOf x) (sl : Slot) (es : sl ≡ loadedAt w i) where
   state-at : sl .state ≡ stateOf (cellAt w (slotOf x))
-  state-at = ap (λ (y : Slot). y .state) es ∙ ap (λ (y : ℕ). stateOf (cellAt w y)) ei
+  state-at = loaded-state w ei es
 
   pub serves-always : {A : Type 0} → Unconnected (sl .state) → A
   serves-always d = absurd (not-connected (sl .state) d (sv .server) (state-at ∙ sv .is-server))
@@ -93,9 +94,8 @@ module _ (n c : ℕ) (w : List ℕ) (x i : ℕ) (sv : Serves n c w x) (ei : i �
     pub server-ended : (w′ t wk wk′ rl rl′ : List ℕ) (d r : Closing) → Ends n i (sl .generation) k w w′ t wk wk′ rl rl′ d r
         → Ends n (slotOf x) (cellAt w (slotOf x) .generation) (connectionIn (stateOf (cellAt w (slotOf x)))) w w′ t wk wk′ rl rl′ d r
     server-ended w′ t wk wk′ rl rl′ d r e =
-        let eg : sl .generation ≡ cellAt w (slotOf x) .generation = ap (λ (y : Slot). y .generation) es ∙ ap (λ (y : ℕ). cellAt w y .generation) ei in
         subst (λ (y : Connection). Ends n (slotOf x) (cellAt w (slotOf x) .generation) y w w′ t wk wk′ rl rl′ d r) (sym is-k)
-        (subst (λ (y : ℕ). Ends n (slotOf x) y k w w′ t wk wk′ rl rl′ d r) eg (subst (λ (y : ℕ). Ends n y (sl .generation) k w w′ t wk wk′ rl rl′ d r) ei e))
+        (subst (λ (y : ℕ). Ends n (slotOf x) y k w w′ t wk wk′ rl rl′ d r) (loaded-generation w ei es) (subst (λ (y : ℕ). Ends n y (sl .generation) k w w′ t wk wk′ rl rl′ d r) ei e))
 
 -- ── end_listener ──
 
@@ -120,15 +120,15 @@ module _ (n c : ℕ) (s : Store) (l : Lists) (h : ℕ) (b : Bool) (eb : b ≡ li
   stale t er = refused-done _ 1 n c s l r (stale-run n c s h b _ eb t) (λ z. omega arith) er
 
 module _ (n c : ℕ) (s : Store) (wk rl : List ℕ) (h : ℕ) (b : Bool) (eb : b ≡ liveIn n (s .words) h) (r : Answer) (kn : Known n c s) (t : not b ≡ false) (i : ℕ) (ei : i ≡ slotOf h) (sl : Slot)
-    (es : sl ≡ record { generation = cellAt (s .words) i .generation; state = stateOf (cellAt (s .words) i) }) where
+    (es : sl ≡ loadedAt (s .words) i) where
   lv : Live n c s h
   lv = live n c s h b eb t
 
   is-state : (σ : State) → sl .state ≡ σ → stateOf (cellAt (s .words) (slotOf h)) ≡ σ
-  is-state σ e = sym (ap (λ (x : ℕ). stateOf (cellAt (s .words) x)) ei) ∙ sym (ap (λ (x : Slot). x .state) es) ∙ e
+  is-state σ e = sym (loaded-state (s .words) ei es) ∙ e
 
   generation-is : sl .generation ≡ cellAt (s .words) (slotOf h) .generation
-  generation-is = ap (λ (x : Slot). x .generation) es ∙ ap (λ (x : ℕ). cellAt (s .words) x .generation) ei
+  generation-is = loaded-generation (s .words) ei es
 
   seen-as : (σ : State) → sl .state ≡ σ → model.stateOf (view n c s) h ≡ showIn (rowAt n c s (slotOf h)) (cellAt (s .words) (slotOf h) .generation) σ .state
   seen-as σ e = state-seen n c s h σ (lv .within) (is-state σ e)
@@ -172,7 +172,7 @@ module _ (n c : ℕ) (s : Store) (wk rl : List ℕ) (h : ℕ) (b : Bool) (eb : b
     pub socket-within : i < n
     socket-within = let z = lv .within in omega arith
 
-    pub connected-closed : (w′ wk′ rl′ : List ℕ) (d : Closing) → Ends n i (sl .generation) k (s .words) w′ (s .tokens) wk wk′ rl rl′ (record { wakes = 0; releases = 0 }) d → r ≡ closedWith d
+    pub connected-closed : (w′ wk′ rl′ : List ℕ) (d : Closing) → Ends n i (sl .generation) k (s .words) w′ (s .tokens) wk wk′ rl rl′ (record { wakes = 0; releases = 0 }) d → r ≡ releasedWith (d .wakes) (d .releases)
         → Done (run (view n c s) (Call.Close h)) n c s (lent w′ (s .bytes) (s .tokens)) (lists wk rl) (lists wk′ rl′) r
     unfolding ending.queued showIn
     connected-closed w′ wk′ rl′ d e er =
@@ -251,7 +251,7 @@ going-words {n} {c} {i} {q} {b} {t} {k = k} {w} {wk} {rl} go h w₀ wk₀ rl₀ 
     (f .around .words-long, long-as wk wk₀ (cl .wakes) (f .wakes-are), long-as rl rl₀ (cl .releases) (f .releases-are))
 
 pub going-done : {n c i : ℕ} {q : Listener} {b t w₁ wk₁ rl₁ : List ℕ} {d₁ : Closing} {k : ℕ} {w wk rl : List ℕ} {d : Closing} → Going n c i q b t w₁ wk₁ rl₁ d₁ k w wk rl d → k ≤ q .pending → q .pending ≤ k
-    → (h : ℕ) (w₀ wk₀ rl₀ : List ℕ) → Begun n c i q h w₀ b t → SoFar n c (lent w₀ b t) (h ∷ []) 1 0 w₁ wk₀ wk₁ rl₀ rl₁ d₁ → (r : Answer) → r ≡ closedWith d
+    → (h : ℕ) (w₀ wk₀ rl₀ : List ℕ) → Begun n c i q h w₀ b t → SoFar n c (lent w₀ b t) (h ∷ []) 1 0 w₁ wk₀ wk₁ rl₀ rl₁ d₁ → (r : Answer) → r ≡ releasedWith (d .wakes) (d .releases)
     → Done (run (view n c (lent w₀ b t)) (Call.Close h)) n c (lent w₀ b t) (lent w b t) (lists wk₀ rl₀) (lists wk rl) r
 going-done {n} {c} {i} {q} {b} {t} {k = k} {w} {wk} {rl} {d} go h₁ h₂ h w₀ wk₀ rl₀ g so r er =
     line-done n c (lent w₀ b t) (g .knows) h (g .lives) q (g .listens) k (k + 1) k w wk₀ wk rl₀ rl d (go .goes h w₀ wk₀ rl₀ g so) h₁ h₂ r er

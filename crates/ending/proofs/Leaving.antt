@@ -40,16 +40,17 @@ use Rattle.storage.proofs.Around.{around-same, around-then, roomy-around, store
 use Rattle.storage.proofs.Pasted.{length-part}
 use Rattle.storage.proofs.Viewed.{put-view, gen-at, open-view, seen}
 use Rattle.table.specs.Formed.{queueIn, rangesWell, tied, tiedState}
-use Rattle.table.proofs.Links.{Entry, Entries, entries-of, queue-at, index-mem}
+use Rattle.table.proofs.Links.{Entry, Entries, entries-of, queue-at, index-mem, queue-length}
+use Rattle.promise.specs.Answers.{releasedWith}
 use Rattle.promise.specs.Hidden.{hiddenIn, hiddenAfter, roomAfter}
 use Rattle.promise.specs.Promise.{lists, Stored, Done}
 use Rattle.promise.specs.declared.Answer.{Answer}
-use Rattle.promise.proofs.Known.{Known, listener-at, queue-length}
+use Rattle.promise.proofs.Known.{Known, listener-at}
 use Rattle.promise.proofs.Kept.{row-changed, row-other, other-state}
 use Rattle.promise.proofs.Changed.{Fit, fit-same, fields-closed, rows-stored, released-done}
 use Rattle.promise.proofs.Live.{Live, opened, live-run, state-seen}
 use Rattle.ending.specs.declared.Closing.{Closing}
-use Rattle.ending.specs.Leaving.{closedWith, peerIn, Ends, Fits, Shut, SoFar}
+use Rattle.ending.specs.Leaving.{peerIn, Ends, Fits, Shut, SoFar}
 
 -- ── Lists ──
 
@@ -136,9 +137,9 @@ module _ (n c : ℕ) (s s′ : Store) (call : Call) (k : Known n c s) (a : Aroun
             let en : Entry n (s .words) l p x = old .each i hi in
             let ring-same : queueIn n (s′ .words) l ≡ queueIn n (s .words) l = ap (λ (r : Row). r .queue) same-l in
             let f′ : Roomy n c s′ = roomy-around a (k .roomy) in
-            let long : i < length (queued (queueIn n (s′ .words) l) (q .head) (q .pending)) = rw (queue-length n c s′ l q f′ good-after hl (rg .2) (rg .3)) hi in
+            let long : i < length (queued (queueIn n (s′ .words) l) (q .head) (q .pending)) = rw (queue-length n c s′ f′ l q hl (rg .2) (rg .3)) hi in
             let first-in : List·Memᴰ (getD (queued (queueIn n (s′ .words) l) (q .head) (q .pending)) i 0) (queued (queueIn n (s′ .words) l) (q .head) (q .pending)) = index-mem _ i long in
-            let is-x : getD (queued (queueIn n (s′ .words) l) (q .head) (q .pending)) i 0 ≡ x = queue-at n c s′ f′ good-after l q i hl (rg .2) (rg .3) hi ∙ ap (λ (r : List ℕ). getD r p 0) ring-same in
+            let is-x : getD (queued (queueIn n (s′ .words) l) (q .head) (q .pending)) i 0 ≡ x = queue-at n c s′ f′ l q i hl (rg .2) (rg .3) hi ∙ ap (λ (r : List ℕ). getD r p 0) ring-same in
             let mine = seen n c s′ l (Listening q) hl e in
             let o = open-at (view n c s′) l (good-after .sound .wf .sized) (ap (λ (y : model.Slot). y .inUse) mine) in
             let pend = good-after .sound .queues .entries (handleAt (view n c s′) l) x (o .1)
@@ -310,7 +311,7 @@ module _ (n c : ℕ) (s : Store) (kn : Known n c s) (h g : ℕ) (hh : slotOf h <
 
 pub all-done : (n c : ℕ) (s : Store) (kn : Known n c s) (h : ℕ) (e f : ℕ) (w′ wk wk′ rl rl′ : List ℕ) (d : Closing) (r : Answer) → Live n c s h
     → SoFar n c s (h ∷ ending.queued (model.stateOf (view n c s) h)) e f w′ wk wk′ rl rl′ d
-    → r ≡ closedWith d
+    → r ≡ releasedWith (d .wakes) (d .releases)
     → Done (run (view n c s) (Call.Close h)) n c s (lent w′ (s .bytes) (s .tokens)) (lists wk rl) (lists wk′ rl′) r
 unfolding run doClose
 all-done n c s kn h e f w′ wk wk′ rl rl′ d r lv so er =

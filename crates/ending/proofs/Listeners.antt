@@ -25,15 +25,16 @@ use Rattle.storage.specs.declared.State.the-variants.{Listening, Connected}
 use Rattle.storage.specs.declared.Listener.{Listener}
 use Rattle.storage.specs.declared.Connection.{Connection}
 use Rattle.table.specs.Formed.{queueIn, tied, tiedState}
-use Rattle.table.proofs.Links.{Entry, entries-of, queue-at, index-mem, place-ring}
+use Rattle.table.proofs.Links.{Entry, entries-of, queue-at, index-mem, place-ring, queue-length}
+use Rattle.promise.specs.Answers.{releasedWith}
 use Rattle.promise.specs.Promise.{lists, Done}
 use Rattle.promise.specs.declared.Answer.{Answer}
-use Rattle.promise.proofs.Known.{Known, listener-at, queue-length}
+use Rattle.promise.proofs.Known.{Known, listener-at}
 use Rattle.promise.proofs.Kept.{other-state}
 use Rattle.promise.proofs.Held.{inbox-in}
 use Rattle.promise.proofs.Live.{Live, state-seen}
 use Rattle.ending.specs.declared.Closing.{Closing}
-use Rattle.ending.specs.Leaving.{closedWith, Ends, Fits, Serves, Shut, SoFar, connectionIn}
+use Rattle.ending.specs.Leaving.{Ends, Fits, Serves, Shut, SoFar, connectionIn}
 use Rattle.ending.proofs.Leaving.{one-more, all-done}
 
 -- ── Lists ──
@@ -70,7 +71,7 @@ module _ (n c : ℕ) (s : Store) (kn : Known n c s) (h : ℕ) (lv : Live n c s h
   ranged = listener-at kn (lv .within) is
 
   long : length line ≡ q .pending
-  long = queue-length n c s (slotOf h) q (kn .roomy) (kn .good) (lv .within) (ranged .2) (ranged .3)
+  long = queue-length n c s (kn .roomy) (slotOf h) q (lv .within) (ranged .2) (ranged .3)
 
   queue-is : ending.queued (model.stateOf (view n c s) h) ≡ line
   unfolding ending.queued showIn rowAt
@@ -81,7 +82,7 @@ module _ (n c : ℕ) (s : Store) (kn : Known n c s) (h : ℕ) (lv : Live n c s h
   entry k hk = entries-of n (s .words) (slotOf h) q (subst (λ (σ : State). tiedState n (s .words) (slotOf h) σ ≡ true) is (kn .ties (slotOf h) (lv .within))) .each k hk
 
   line-at : (k : ℕ) → k < q .pending → getD line k 0 ≡ getD (queueIn n (s .words) (slotOf h)) (placeOf n (q .head + k)) 0
-  line-at k hk = queue-at n c s (kn .roomy) (kn .good) (slotOf h) q k (lv .within) (ranged .2) (ranged .3) hk
+  line-at k hk = queue-at n c s (kn .roomy) (slotOf h) q k (lv .within) (ranged .2) (ranged .3) hk
 
   waiting-open : (y : ℕ) → List·Memᴰ y line → isOpen (view n c s) y ≡ true
   waiting-open y m = kn .good .sound .queues .entries h y (lv .opened) (subst (List·Memᴰ y) (sym queue-is) m) .here
@@ -152,7 +153,7 @@ module _ (n c : ℕ) (s : Store) (kn : Known n c s) (h : ℕ) (lv : Live n c s h
 
   -- all have closed
   pub line-done : (k e f : ℕ) (w wk₀ wk rl₀ rl : List ℕ) (d : Closing) → SoFar n c s (h ∷ take k line) e f w wk₀ wk rl₀ rl d → k ≤ q .pending → q .pending ≤ k → (r : Answer)
-      → r ≡ closedWith d
+      → r ≡ releasedWith (d .wakes) (d .releases)
       → Done (run (view n c s) (Call.Close h)) n c s (lent w (s .bytes) (s .tokens)) (lists wk₀ rl₀) (lists wk rl) r
   line-done k e f w wk₀ wk rl₀ rl d so h₁ h₂ r er =
       let whole : take k line ≡ ending.queued (model.stateOf (view n c s) h) = take-all k line (let z = long in omega arith) ∙ sym queue-is in

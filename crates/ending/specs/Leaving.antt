@@ -17,12 +17,7 @@ use Rattle.storage.specs.Finding.{openIn}
 use Rattle.storage.specs.declared.Connection.{Connection}
 use Rattle.storage.specs.declared.State.{State}
 use Rattle.storage.specs.declared.State.the-variants.{Closed, Unbound, Bound, Listening, Connected}
-use Rattle.promise.specs.declared.Answer.{Answer}
 use Rattle.ending.specs.declared.Closing.{Closing}
-
--- the answer of a close
-abbrev pub closedWith : Closing → Answer
-closedWith d = record { refusal = 0; flags = 0; value = 0; items = 0; wakes = d .wakes; releases = d .releases }
 
 -- its open peer
 unfoldable pub peerIn : ℕ → List ℕ → Connection → List ℕ

@@ -6,12 +6,13 @@ ghost use lib.ListN.{length};
 ghost use Rattle.rules.specs.Outcome.{Call};
 ghost use Rattle.storage.specs.Rows.{lent};
 ghost use Rattle.table.specs.Admission.{Admitted};
+ghost use Rattle.promise.specs.Answers.{releasedWith};
 ghost use Rattle.promise.specs.Promise.{lists, Runs};
 ghost use Rattle.rules.specs.Table.{slotOf};
 ghost use Rattle.storage.specs.Cells.{cellAt, stateOf, storeAt, cellOf};
 ghost use Rattle.storage.specs.Finding.{liveIn};
 ghost use Rattle.storage.specs.declared.State.the-variants.{Closed, Listening};
-ghost use Rattle.ending.specs.Leaving.{closedWith, Ends, Fits, Serves, connectionIn};
+ghost use Rattle.ending.specs.Leaving.{Ends, Fits, Serves, connectionIn};
 use promise::Answer;
 use storage::Connection;
 use storage::Listener;
@@ -30,7 +31,7 @@ struct Closing {
 }
 
 fn closed(done: Closing) -> Answer
-    ensures { λ r. ⌜ r ≡ closedWith done ⌝ }
+    ensures { λ r. ⌜ r ≡ releasedWith (done .wakes) (done .releases) ⌝ }
 {
     Answer {
         refusal: 0,

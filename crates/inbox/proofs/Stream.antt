@@ -1,13 +1,14 @@
 -- What is pushed comes out in order, and each item once: over any takes, whatever room they lend and whatever their policy.
-use mathlib.Core.Path.{_≡_, refl, sym, ap, ap₂, _∙_}
+use mathlib.Core.Path.{_≡_, refl, ap, ap₂, _∙_}
 use mathlib.Core.Bool.{Bool, true, false, cond}
-use mathlib.Core.List.{List, [], _∷_, _++_, map, append-assoc, append-nil}
+use mathlib.Core.List.{List, [], _∷_, _++_, append-assoc, append-nil}
 use Prim.Native.Nat.{ℕ}
 use lib.ListN.{length, take, take-append-drop}
 use lib.Dec.{eqb}
 use Rattle.rules.specs.Table.{Group, Inbox}
-use Rattle.rules.specs.Inbox.{isNil, allItems, append, group, others, moved, nearer, rest}
+use Rattle.rules.specs.Inbox.{isNil, allItems, append, group, others, moved, rest}
 use Rattle.rules.specs.Moving.{Policy, handed, released}
+use Rattle.rules.proofs.InboxOk.{items-append, items-nearer}
 
 -- a take: how much room its caller lends, and its policy
 pub record Read : Type 0 where
@@ -29,17 +30,12 @@ left b (r ∷ rs) = left (rest b (moved b (r .room))) rs
 
 -- ── One take ──
 
-each-once : (p : Policy) (its : List ℕ) → handed p its ++ released p its ≡ its
+pub each-once : (p : Policy) (its : List ℕ) → handed p its ++ released p its ≡ its
 unfolding handed released
 each-once Policy.Drop its = refl
 each-once (Policy.Take m) its = take-append-drop m its
 
-items-nearer : (k : ℕ) (gs : List Group) → allItems (map (nearer k) gs) ≡ allItems gs
-unfolding allItems nearer
-items-nearer k [] = refl
-items-nearer k (g ∷ gs) = ap (λ (x : List ℕ). g .items ++ x) (items-nearer k gs)
-
-items-split : (gs : List Group) → group gs ++ allItems (others gs) ≡ allItems gs
+pub items-split : (gs : List Group) → group gs ++ allItems (others gs) ≡ allItems gs
 unfolding group others allItems
 items-split [] = refl
 items-split (g ∷ gs) = go (eqb (g .place) 0)
@@ -70,11 +66,6 @@ items-in-order b (r ∷ rs) =
     ∙ items-split (b .groups)
 
 -- ── A push and many takes ──
-
-items-append : (gs hs : List Group) → allItems (gs ++ hs) ≡ allItems gs ++ allItems hs
-unfolding allItems
-items-append [] hs = refl
-items-append (g ∷ gs) hs = ap (λ (x : List ℕ). g .items ++ x) (items-append gs hs) ∙ sym (append-assoc (g .items) (allItems gs) (allItems hs))
 
 pub push-then-takes : (b : Inbox) (new items : List ℕ) (rs : List Read)
     → (bytesOut (append b new items) rs ++ left (append b new items) rs .bytes ≡ b .bytes ++ new)

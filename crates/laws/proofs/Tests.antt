@@ -19,6 +19,10 @@ less-or a b = go (ltb a b) refl
     go true e = inl (ltb-true a b e)
     go false e = inr (ltb-false a b e)
 
+-- a conjunction from its parts
+pub both : (a b : Bool) → a ≡ true → b ≡ true → a && b ≡ true
+both a b p q = rw p q
+
 -- what a conjunction and a disjunction say of their parts
 pub and-left : (a b : Bool) → a && b ≡ true → a ≡ true
 and-left true b h = refl

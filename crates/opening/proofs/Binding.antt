@@ -25,7 +25,7 @@ use Rattle.storage.specs.Finding.{liveIn, least, holdsCell}
 use Rattle.storage.specs.declared.Slot.{Slot}
 use Rattle.storage.specs.declared.State.{State}
 use Rattle.storage.specs.declared.State.the-variants.{Closed, Unbound, Bound, Listening, Connected}
-use Rattle.storage.proofs.Coding.{back}
+use Rattle.storage.proofs.Coding.{back, loadedAt}
 use Rattle.storage.proofs.Pasted.{length-part}
 use Rattle.storage.proofs.Framing.{store-rows, room-rows}
 use Rattle.storage.proofs.Around.{store-around, room-around, around-then, roomy-around}
@@ -138,7 +138,7 @@ module _ (n c : ℕ) (s : Store) (l : Lists) (h : ℕ) (m : List ℕ) (r : Answe
       unfolding run
       bind-long e er = refused-done _ 17 n c s l r (long-name n c s h mine _ m some e) (λ z. omega arith) er
 
-      module _ (low : length m ≤ 255) (i : ℕ) (ei : i ≡ slotOf h) (x : Slot) (ex : x ≡ record { generation = cellAt (s .words) i .generation; state = stateOf (cellAt (s .words) i) }) where
+      module _ (low : length m ≤ 255) (i : ℕ) (ei : i ≡ slotOf h) (x : Slot) (ex : x ≡ loadedAt (s .words) i) where
         at-state : (σ : State) → x .state ≡ σ → Called n c s h i (x .generation) σ
         at-state σ es = called n c s h b i x σ eb lv ei ex es
 

@@ -31,7 +31,7 @@ use Rattle.storage.specs.declared.State.{State}
 use Rattle.storage.specs.declared.State.the-variants.{Closed, Unbound, Listening, Connected}
 use Rattle.storage.specs.declared.Listener.{Listener}
 use Rattle.storage.specs.declared.Connection.{Connection}
-use Rattle.storage.proofs.Coding.{back, back-gen}
+use Rattle.storage.proofs.Coding.{back, back-gen, connected-inj, listening-inj}
 use Rattle.storage.proofs.Pasted.{set-paste}
 use Rattle.storage.proofs.Framing.{store-rows, entry-rows}
 use Rattle.storage.proofs.Around.{store-around, entry-around, around-then, roomy-around}
@@ -41,7 +41,7 @@ use Rattle.table.proofs.Links.{Entry, Entries, entries-of, place-ring, ahead-pl
 use Rattle.promise.specs.Hidden.{hiddenIn, hiddenAfter, fromQueue, queueOn, fromInbox, roomAfter}
 use Rattle.promise.specs.Promise.{Stored}
 use Rattle.promise.proofs.Known.{Known, listener-range, listener-at}
-use Rattle.promise.proofs.Kept.{row-changed, row-other, other-state, connected-inj, listening-inj}
+use Rattle.promise.proofs.Kept.{row-changed, row-other, other-state}
 use Rattle.promise.proofs.Changed.{Fit, fit-same, fields-listening, rows-stored, placed, fields-connected}
 use Rattle.pairing.specs.Pairs.{newEnd, oneMore, pairIn, queueUp, joined}
 use Rattle.pairing.proofs.Pigeons.{Different, missed}
@@ -310,7 +310,7 @@ module _ (n c : ℕ) (s : Store) (k : Known n c s) (h l j : ℕ) (q : Listener) 
 
   long-l : length (rowAt n c s l .queue) ≡ n
   unfolding rowAt
-  long-l = queue-long n c s (k .roomy) (k .good) l hl
+  long-l = queue-long n c s (k .roomy) l hl
 
   view₄ : view n c s₄ ≡ become (view n c s₂) (handleAt (view n c s) l) (model.State.Listening name-l (q .backlog) (queue-l ++ (server ∷ [])))
   view₄ =
@@ -422,7 +422,7 @@ module _ (n c : ℕ) (s : Store) (k : Known n c s) (h l j : ℕ) (q : Listener) 
           | yes e ↦
               subst (λ (y : ℕ). Entry n (s₄ .words) l (placeOf n (q .head + y)) (getD (queueIn n (s₄ .words) l) (placeOf n (q .head + y)) 0)) (sym e)
               (subst (Entry n (s₄ .words) l x)
-              (sym (ap (λ (u : List ℕ). getD u x 0) ring-l ∙ getD-set-same (queueIn n (s .words) l) x server 0 (let z = queue-long n c s (k .roomy) (k .good) l hl in let y = x-in in omega arith)))
+              (sym (ap (λ (u : List ℕ). getD u x 0) ring-l ∙ getD-set-same (queueIn n (s .words) l) x server 0 (let z = queue-long n c s (k .roomy) l hl in let y = x-in in omega arith)))
               entry-new)
           | no d ↦
               let hp : m < q .pending = omega arith in

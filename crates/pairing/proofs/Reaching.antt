@@ -24,6 +24,7 @@ use Rattle.storage.specs.declared.Listener.{Listener}
 use Rattle.storage.specs.declared.Connection.{Connection}
 use Rattle.storage.specs.declared.State.{State}
 use Rattle.storage.specs.declared.State.the-variants.{Closed, Unbound, Bound, Listening, Connected}
+use Rattle.storage.proofs.Coding.{loaded-state, loadedAt}
 use Rattle.storage.proofs.Viewed.{at-none, seen, gen-at, holder-view}
 use Rattle.table.proofs.Links.{queue-long}
 use Rattle.promise.specs.Answers.{refusedWith, acceptedWith}
@@ -36,9 +37,6 @@ use Rattle.promise.proofs.Live.{Live, live, not-closed, state-seen, stale-name,
 use Rattle.pairing.specs.Callers.{Caller}
 use Rattle.pairing.specs.Pairs.{joined}
 use Rattle.pairing.proofs.Joining.{joined-is, joined-stored}
-
-abbrev loadedAt : List ℕ → ℕ → Slot
-loadedAt w i = record { generation = cellAt w i .generation; state = stateOf (cellAt w i) }
 
 -- ── The caller ──
 
@@ -58,7 +56,7 @@ module _ (n c : ℕ) (s : Store) (ls : Lists) (h : ℕ) (m : List ℕ) (r : Answ
 
     module _ (i : ℕ) (slot : Slot) (ei : i ≡ slotOf h) (es : slot ≡ loadedAt (s .words) i) (some : length m ≡ 0 → ⊥) (short : length m ≤ 255) where
       own : (σ : State) → slot .state ≡ σ → stateOf (cellAt (s .words) (slotOf h)) ≡ σ
-      own σ e = ap (λ (y : ℕ). stateOf (cellAt (s .words) y)) (sym ei) ∙ sym (ap (λ (y : Slot). y .state) es) ∙ e
+      own σ e = sym (loaded-state (s .words) ei es) ∙ e
 
       by-state : (σ : State) → slot .state ≡ σ → run (view n c s) (Call.Connect h m)
           ≡ doConnect (view n c s) h m (showIn (rowAt n c s (slotOf h)) (cellAt (s .words) (slotOf h) .generation) σ .state)
@@ -148,7 +146,7 @@ module _ (n c : ℕ) (s : Store) (ls : Lists) (h : ℕ) (m : List ℕ) (r : Answ
       pending-many =
           let y = listener-in .2 in
           let z = listener-in .3 in
-          let v = queue-long n c s (k .roomy) (k .good) l hl in
+          let v = queue-long n c s (k .roomy) l hl in
           queued-length (rowAt n c s l .queue) (q .head) (omega arith) (q .pending) (omega arith)
 
       pub reach-full : q .backlog ≤ q .pending → r ≡ refusedWith 8 → Done (run (view n c s) (Call.Connect h m)) n c s s ls ls r

@@ -11,11 +11,12 @@ use Rattle.inbox.specs.Promise.{none}
 use Rattle.inbox.specs.declared.Inbox.{Inbox}
 use Rattle.rules.specs.Table.{slotOf, handle}
 use Rattle.storage.specs.Layout.{queueBase}
-use Rattle.storage.specs.Cells.{cellAt, stateOf, storeAt, cellOf}
+use Rattle.storage.specs.Cells.{cellAt, storeAt, cellOf}
 use Rattle.storage.specs.declared.Slot.{Slot}
 use Rattle.storage.specs.declared.Listener.{Listener}
 use Rattle.storage.specs.declared.Connection.{Connection}
 use Rattle.storage.specs.declared.State.the-variants.{Listening, Connected}
+use Rattle.storage.proofs.Coding.{loadedAt}
 use Rattle.pairing.specs.Pairs.{newEnd, oneMore, pairIn, queueUp, joined}
 
 pub end-is : (p : Handle) (q : Inbox) (l x : ℕ) → q ≡ none
@@ -36,8 +37,8 @@ pub queued-up : (n : ℕ) (w w′ w″ : List ℕ) (l g : ℕ) (q : Listener) (x
 unfolding queueUp
 queued-up n w w′ w″ l g q x s e₁ e₂ = e₂ ∙ ap (λ (u : List ℕ). storeAt u l (cellOf g (Listening (oneMore q)))) e₁
 
-pub all-joined : (n : ℕ) (w w′ w″ : List ℕ) (h l g : ℕ) (q : Listener) (j i : ℕ) (a b : Slot) (x s : ℕ) → i ≡ slotOf h → a ≡ record { generation = cellAt w i .generation; state = stateOf (cellAt w i) }
-    → b ≡ record { generation = cellAt w j .generation; state = stateOf (cellAt w j) } → x ≡ placeOf n (q .head + q .pending) → s ≡ handle (b .generation + 1) j
+pub all-joined : (n : ℕ) (w w′ w″ : List ℕ) (h l g : ℕ) (q : Listener) (j i : ℕ) (a b : Slot) (x s : ℕ) → i ≡ slotOf h → a ≡ loadedAt w i
+    → b ≡ loadedAt w j → x ≡ placeOf n (q .head + q .pending) → s ≡ handle (b .generation + 1) j
     → w′ ≡ pairIn w h (a .generation) j (b .generation + 1) l x → w″ ≡ queueUp n w′ l g q x s → w″ ≡ joined n w h l g q j
 unfolding joined
 all-joined n w w′ w″ h l g q j i a b x s ei ea eb ex es e₁ e₂ =
@@ -52,7 +53,7 @@ all-joined n w w′ w″ h l g q j i a b x s ei ea eb ex es e₁ e₂ =
 -- ── What they ask ──
 
 -- of the slot of a new server
-module _ (w : List ℕ) (j : ℕ) (b : Slot) (eb : b ≡ record { generation = cellAt w j .generation; state = stateOf (cellAt w j) }) (young : cellAt w j .generation < 4294967295) where
+module _ (w : List ℕ) (j : ℕ) (b : Slot) (eb : b ≡ loadedAt w j) (young : cellAt w j .generation < 4294967295) where
   pub new-word : b .generation + 1 < 2 ^ 64
   new-word = let z = ap (λ (y : Slot). y .generation) eb in omega arith
 

@@ -6,11 +6,12 @@ use Prim.Native.Nat.{ℕ, _+_, _*_, _^_, _≤_, _<_}
 use native.Mathlib.Omega.{arith}
 use lib.ListN.{length}
 use borrow.Author.Tests.{not-false}
-use Rattle.storage.specs.Cells.{cellAt, stateOf}
+use Rattle.storage.specs.Cells.{cellAt}
 use Rattle.storage.specs.Rows.{Store, lent}
 use Rattle.rules.specs.Table.{slotOf}
 use Rattle.storage.specs.Finding.{least, freeCell, liveIn}
 use Rattle.storage.specs.declared.Slot.{Slot}
+use Rattle.storage.proofs.Coding.{loadedAt}
 use Rattle.table.specs.Admission.{Admitted}
 use Rattle.promise.proofs.Free.{free-found}
 use Rattle.promise.proofs.Live.{live}
@@ -29,7 +30,7 @@ module _ {n c : ℕ} {w b t : List ℕ} {x y : ℕ} (a : Admitted n c (lent w b 
   pub free-in : 8 + 16 * i + 16 ≤ length w
   free-in = slot-in a i (free-found n c (lent w b t) i e ne .within)
 
-  module _ (s : Slot) (es : s ≡ record { generation = cellAt w i .generation; state = stateOf (cellAt w i) }) where
+  module _ (s : Slot) (es : s ≡ loadedAt w i) where
     pub next-fits : s .generation + 1 < 2 ^ 64
     next-fits = let z = free-found n c (lent w b t) i e ne .young in let y = ap (λ (q : Slot). q .generation) es in omega arith
 

@@ -18,13 +18,10 @@ use Rattle.storage.specs.declared.State.{State}
 use Rattle.storage.specs.declared.State.the-variants.{Closed, Unbound, Bound, Listening, Connected}
 use Rattle.storage.specs.declared.Listener.{Listener}
 use Rattle.storage.specs.declared.Connection.{Connection}
+use Rattle.storage.proofs.Coding.{loadedAt}
 use Rattle.storage.proofs.State
 use Rattle.storage.proofs.Viewed.{seen}
 use Rattle.promise.proofs.Live.{Live, live}
-
--- what `load` answers
-abbrev pub loadedAt : List ℕ → ℕ → Slot
-loadedAt w j = record { generation = cellAt w j .generation; state = stateOf (cellAt w j) }
 
 -- slot i of the handle h is of generation g, in the state σ
 pub record Called (n c : ℕ) (s : Store) (h i g : ℕ) (σ : State) : Type 0 where

@@ -33,12 +33,12 @@ use Rattle.storage.specs.declared.Connection.{Connection}
 use Rattle.storage.specs.declared.Listener.{Listener}
 use Rattle.storage.proofs.Pasted.{length-part}
 use Rattle.storage.proofs.Strides.{row-before}
-use Rattle.storage.proofs.Coding.{back, back-gen}
+use Rattle.storage.proofs.Coding.{back, back-gen, connected-inj}
 use Rattle.storage.proofs.Viewed.{seen}
 use Rattle.table.specs.Formed.{fieldsWell, pairFields, noName, noQueue, rangesWell, inboxRange}
 use Rattle.promise.specs.Hidden.{Hidden, hiddenIn, hiddenAfter, fromInbox, inboxOn, roomAfter}
 use Rattle.promise.proofs.Known.{Known, inbox-range}
-use Rattle.promise.proofs.Kept.{Keeps, connected-inj, other-state}
+use Rattle.promise.proofs.Kept.{Keeps, other-state}
 use Rattle.promise.proofs.Changed.{Fit, placed, fields-connected}
 use Rattle.promise.proofs.Called.{become-is}
 use Rattle.promise.proofs.Live.{opened}

@@ -108,26 +108,6 @@ tagOf (Connected k) = 4
 pub other-state : {A : Type 0} {σ τ : State} → σ ≡ τ → tagOf σ ≢ tagOf τ → A
 other-state e d = absurd (d (ap tagOf e))
 
-pub listening-inj : {a b : Listener} → Listening a ≡ Listening b → a ≡ b
-listening-inj {a} {b} e = ap (of a) e
-  where
-    of : Listener → State → Listener
-    of d Closed = d
-    of d Unbound = d
-    of d (Bound m) = d
-    of d (Listening q) = q
-    of d (Connected k) = d
-
-pub connected-inj : {a b : Connection} → Connected a ≡ Connected b → a ≡ b
-connected-inj {a} {b} e = ap (of a) e
-  where
-    of : Connection → State → Connection
-    of d Closed = d
-    of d Unbound = d
-    of d (Bound m) = d
-    of d (Listening q) = d
-    of d (Connected k) = k
-
 -- a socket that waits for nothing, and after it is no listener with a queue
 pub keeps-free : (r r′ : Row) → ((b : Connection) → stateOf (r .cell) ≡ Connected b → b .waits ≡ 0) → ((q : Listener) → stateOf (r′ .cell) ≡ Listening q → q .pending ≡ 0) → Keeps r r′
 keeps-free r r′ f g = record { servers = λ b e nz. absurd (nz (f b e)); listeners = λ q e. inl (g q e) }

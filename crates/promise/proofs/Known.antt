@@ -10,9 +10,8 @@ use lib.ListN.{length, take, getD}
 use lib.Seq.{getD-take}
 use borrow.Author.Tests.{leb-true, ltb-true}
 use Rattle.laws.proofs.Tests.{and-three, and-four}
-use Rattle.ring.specs.Ring.{placeOf, queued}
+use Rattle.ring.specs.Ring.{placeOf}
 use Rattle.ring.proofs.Copying.{place-low}
-use Rattle.ring.proofs.Queued.{queued-length}
 use Rattle.inbox.specs.View.{count}
 use Rattle.rules.specs.Inbox.{allItems}
 use Rattle.rules.specs.Table as model
@@ -29,9 +28,8 @@ use Rattle.storage.specs.declared.State.{State}
 use Rattle.storage.specs.declared.State.the-variants.{Closed, Unbound, Bound, Listening, Connected}
 use Rattle.storage.specs.declared.Listener.{Listener}
 use Rattle.storage.specs.declared.Connection.{Connection}
-use Rattle.table.specs.Formed.{headerWell, queueIn, fieldsWell, inboxRange, rangesWell, tied, slotFormed, formed}
+use Rattle.table.specs.Formed.{headerWell, fieldsWell, inboxRange, rangesWell, tied, slotFormed, formed}
 use Rattle.table.specs.Admission.{Admitted}
-use Rattle.table.proofs.Links.{queue-long}
 use Rattle.promise.specs.Answers.{refusedWith}
 use Rattle.promise.specs.Hidden.{hiddenIn, hiddenAfter, fromQueue, queueOn, fromInbox, inboxOn, roomAfter, nameWritten}
 use Rattle.promise.specs.Promise.{Lists, Stored, Done}
@@ -137,6 +135,10 @@ inbox-stays c k i hb hf =
     rw (stay c (k .inbox .head) (length (i .bytes)) (length (i .bytes)) hb (omega arith), round (k .inbox .«written_total») (length (i .bytes)), round (k .inbox .«read_total») (length (i .bytes)), stay 256 (k .inbox .first) (length (allItems (i .groups))) (length (allItems (i .groups))) hf (omega arith))
 
 -- the ranges of a listener and of an inbox
+pub bound-range : (n c m : ℕ) → rangesWell n c (Bound m) ≡ true → m ≤ 255
+unfolding rangesWell
+bound-range n c m e = leb-true m 255 e
+
 pub listener-range : (n c : ℕ) (l : Listener) → rangesWell n c (Listening l) ≡ true → (l .name ≤ 255) × (l .backlog < 4294967296) × (l .head < n) × (l .pending ≤ n)
 unfolding rangesWell
 listener-range n c l e =
@@ -146,10 +148,6 @@ listener-range n c l e =
 pub listener-at : {n c : ℕ} {s : Store} → Known n c s → {i : ℕ} → i < n → {l : Listener} → stateOf (cellAt (s .words) i) ≡ Listening l
     → (l .name ≤ 255) × (l .backlog < 4294967296) × (l .head < n) × (l .pending ≤ n)
 listener-at {n} {c} k {i} h {l} e = listener-range n c l (subst (λ (σ : State). rangesWell n c σ ≡ true) e (k .ranges i h))
-
--- what a listener has queued
-pub queue-length : (n c : ℕ) (s : Store) (i : ℕ) (l : Listener) → Roomy n c s → Formed (view n c s) → i < n → l .head < n → l .pending ≤ n → length (queued (queueIn n (s .words) i) (l .head) (l .pending)) ≡ l .pending
-queue-length n c s i l f g hi hh hp = let z = queue-long n c s f g i hi in queued-length (queueIn n (s .words) i) (l .head) (omega arith) (l .pending) (omega arith)
 
 pub inbox-range : (n c : ℕ) (k : Connection) → rangesWell n c (Connected k) ≡ true → (k .inbox .head < c) × (count (k .inbox) ≤ c) × (k .inbox .first < 256) × (k .inbox .items ≤ 256)
 unfolding rangesWell inboxRange

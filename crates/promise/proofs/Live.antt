@@ -22,35 +22,6 @@ use Rattle.storage.specs.declared.State.{State}
 use Rattle.storage.specs.declared.State.the-variants.{Closed}
 use Rattle.storage.proofs.Viewed.{open-view, live-view, seen}
 
--- ── The socket of a live handle ──
-
-pub record Live (n c : ℕ) (s : Store) (h : ℕ) : Type 0 where
-  pub within : slotOf h < n
-  pub lives : isLive (view n c s) h ≡ true
-  pub opened : isOpen (view n c s) h ≡ true
-  pub whole : handle (cellAt (s .words) (slotOf h) .generation) (slotOf h) ≡ h
-  pub used : occupied (stateOf (cellAt (s .words) (slotOf h))) ≡ true
-  pub given : waiting (stateOf (cellAt (s .words) (slotOf h))) ≡ false
-
-pub live : (n c : ℕ) (s : Store) (h : ℕ) (r : Bool) → r ≡ liveIn n (s .words) h → not r ≡ false → Live n c s h
-unfolding liveIn openIn
-live n c s h r e d =
-    let yes : liveIn n (s .words) h ≡ true = sym e ∙ not-false r d in
-    let o : openIn n (s .words) h ≡ true = and-left (openIn n (s .words) h) (not (waiting (stateOf (cellAt (s .words) (slotOf h))))) yes in
-    let p = and-three (ltb (slotOf h) n) (eqb (handle (cellAt (s .words) (slotOf h) .generation) (slotOf h)) h) (occupied (stateOf (cellAt (s .words) (slotOf h)))) o in
-    record {
-      within = ltb-true (slotOf h) n (p .0);
-      lives = sym (live-view n c s h) ∙ yes;
-      opened = sym (open-view n c s h) ∙ o;
-      whole = eqb-true (handle (cellAt (s .words) (slotOf h) .generation) (slotOf h)) h (p .1);
-      used = p .2;
-      given = not-true _ (and-right (openIn n (s .words) h) (not (waiting (stateOf (cellAt (s .words) (slotOf h))))) yes);
-    }
-
--- no live socket is closed, and a connected one waits for nothing
-pub not-closed : {A : Type 0} (n c : ℕ) (s : Store) (h : ℕ) → Live n c s h → stateOf (cellAt (s .words) (slotOf h)) ≡ Closed → A
-not-closed n c s h l e = absurd (false≢true (sym (ap occupied e) ∙ l .used))
-
 -- ── An open handle, pending or not ──
 
 pub record Opened (n c : ℕ) (s : Store) (h : ℕ) : Type 0 where
@@ -70,6 +41,35 @@ opened n c s h e =
       whole = eqb-true (handle (cellAt (s .words) (slotOf h) .generation) (slotOf h)) h (p .1);
       used = p .2;
     }
+
+-- ── The socket of a live handle ──
+
+pub record Live (n c : ℕ) (s : Store) (h : ℕ) : Type 0 where
+  pub within : slotOf h < n
+  pub lives : isLive (view n c s) h ≡ true
+  pub opened : isOpen (view n c s) h ≡ true
+  pub whole : handle (cellAt (s .words) (slotOf h) .generation) (slotOf h) ≡ h
+  pub used : occupied (stateOf (cellAt (s .words) (slotOf h))) ≡ true
+  pub given : waiting (stateOf (cellAt (s .words) (slotOf h))) ≡ false
+
+pub live : (n c : ℕ) (s : Store) (h : ℕ) (r : Bool) → r ≡ liveIn n (s .words) h → not r ≡ false → Live n c s h
+unfolding liveIn
+live n c s h r e d =
+    let yes : liveIn n (s .words) h ≡ true = sym e ∙ not-false r d in
+    let o : openIn n (s .words) h ≡ true = and-left (openIn n (s .words) h) (not (waiting (stateOf (cellAt (s .words) (slotOf h))))) yes in
+    let p = opened n c s h (sym (open-view n c s h) ∙ o) in
+    record {
+      within = p .within;
+      lives = sym (live-view n c s h) ∙ yes;
+      opened = p .opened;
+      whole = p .whole;
+      used = p .used;
+      given = not-true _ (and-right (openIn n (s .words) h) (not (waiting (stateOf (cellAt (s .words) (slotOf h))))) yes);
+    }
+
+-- no live socket is closed, and a connected one waits for nothing
+pub not-closed : {A : Type 0} (n c : ℕ) (s : Store) (h : ℕ) → Live n c s h → stateOf (cellAt (s .words) (slotOf h)) ≡ Closed → A
+not-closed n c s h l e = absurd (false≢true (sym (ap occupied e) ∙ l .used))
 
 -- ── The state that the model sees ──
 

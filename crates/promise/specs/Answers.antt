@@ -8,3 +8,7 @@ refusedWith e = record { refusal = e; flags = 0; value = 0; items = 0; wakes = 0
 
 abbrev pub acceptedWith : (value wakes : ℕ) → Answer
 acceptedWith v w = record { refusal = 0; flags = 0; value = v; items = 0; wakes = w; releases = 0 }
+
+-- of a close and of a shutdown: items are released
+abbrev pub releasedWith : (wakes releases : ℕ) → Answer
+releasedWith w r = record { refusal = 0; flags = 0; value = 0; items = 0; wakes = w; releases = r }

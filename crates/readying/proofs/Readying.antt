@@ -27,12 +27,14 @@ use Rattle.storage.specs.declared.State.{State}
 use Rattle.storage.specs.declared.State.the-variants.{Closed, Unbound, Bound, Listening, Connected}
 use Rattle.storage.specs.declared.Listener.{Listener}
 use Rattle.storage.specs.declared.Connection.{Connection}
+use Rattle.storage.proofs.Coding.{loaded-state, loadedAt}
 use Rattle.storage.proofs.Finds.{open-slot}
 use Rattle.storage.proofs.Viewed.{open-view}
+use Rattle.table.proofs.Links.{queue-length}
 use Rattle.promise.specs.Answers.{refusedWith, acceptedWith}
 use Rattle.promise.specs.Promise.{Lists, Done}
 use Rattle.promise.specs.declared.Answer.{Answer}
-use Rattle.promise.proofs.Known.{Known, refused-done, listener-at, queue-length}
+use Rattle.promise.proofs.Known.{Known, refused-done, listener-at}
 use Rattle.promise.proofs.Changed.{unchanged}
 use Rattle.promise.proofs.Held.{ring-long, inbox-in}
 use Rattle.promise.proofs.Live.{Live, live, opened, not-closed, state-seen, stale-run, live-run}
@@ -61,7 +63,7 @@ module _ (c : ℕ) (w : List ℕ) (j : ℕ) (k : Connection) where
   unfolding writableIn
   shut-outbox e = rw e
 
-  module _ (s : Slot) (b : Bool) (e : k .«outbox_closed» ≡ false) (es : s ≡ record { generation = cellAt w j .generation; state = stateOf (cellAt w j) }) (eb : b ≡ roomIn c (s .state)) where
+  module _ (s : Slot) (b : Bool) (e : k .«outbox_closed» ≡ false) (es : s ≡ loadedAt w j) (eb : b ≡ roomIn c (s .state)) where
     room-at : roomIn c (stateOf (cellAt w j)) ≡ b
     room-at = sym (eb ∙ ap (λ (x : Slot). roomIn c (x .state)) es)
 
@@ -124,12 +126,12 @@ module _ (n c : ℕ) (s : Store) (l : Lists) (h : ℕ) (b : Bool) (eb : b ≡ li
   unfolding run
   stale t er = refused-done _ 1 n c s l r (stale-run n c s h b _ eb t) (λ z. omega arith) er
 
-  module _ (a : Known n c s) (t : not b ≡ false) (j : ℕ) (ej : j ≡ slotOf h) (sl : Slot) (es : sl ≡ record { generation = cellAt (s .words) j .generation; state = stateOf (cellAt (s .words) j) }) where
+  module _ (a : Known n c s) (t : not b ≡ false) (j : ℕ) (ej : j ≡ slotOf h) (sl : Slot) (es : sl ≡ loadedAt (s .words) j) where
     lv : Live n c s h
     lv = live n c s h b eb t
 
     is-state : (σ : State) → sl .state ≡ σ → stateOf (cellAt (s .words) (slotOf h)) ≡ σ
-    is-state σ e = sym (ap (λ (x : ℕ). stateOf (cellAt (s .words) x)) ej) ∙ sym (ap (λ (x : Slot). x .state) es) ∙ e
+    is-state σ e = sym (loaded-state (s .words) ej es) ∙ e
 
     state-is : (σ : State) → sl .state ≡ σ → model.stateOf (view n c s) h ≡ showIn (rowAt n c s (slotOf h)) (cellAt (s .words) (slotOf h) .generation) σ .state
     state-is σ e = state-seen n c s h σ (lv .within) (is-state σ e)
@@ -155,7 +157,7 @@ module _ (n c : ℕ) (s : Store) (l : Lists) (h : ℕ) (b : Bool) (eb : b ≡ li
       unfolding rowAt
       nil-is =
           let z = listener-at a (lv .within) (is-state (Listening q) e) in
-          none-at-all _ ∙ ap (λ (x : ℕ). eqb x 0) (queue-length n c s (slotOf h) q (a .roomy) (a .good) (lv .within) (z .2) (z .3))
+          none-at-all _ ∙ ap (λ (x : ℕ). eqb x 0) (queue-length n c s (a .roomy) (slotOf h) q (lv .within) (z .2) (z .3))
 
       pub of-empty : q .pending ≡ 0 → r ≡ acceptedWith 0 0 → Done (run (view n c s) (Call.Readiness h)) n c s s l l r
       unfolding ending.ready showIn

@@ -7,36 +7,18 @@ use native.Mathlib.Omega.{arith}
 use mathlib.Core.Bool.{Bool, true, false, cond, _||_, true≢false, false≢true}
 use mathlib.Core.List.{List, [], _∷_}
 use lib.ListN.{length}
-use Rattle.laws.proofs.Tests.{and-right, cond-both}
-use Rattle.rules.proofs.Model.{Table, State, Inbox, Call, fresh, after, slotOf, handle, at, isOpen, isLive, stateOf, become, give, enter, leave, connected, newHandle, freeSlot, drained, doShutdown, doClose, closeAll, closeEnds, nothing, run}
-use Rattle.rules.proofs.Frame.{at-put, field-put, live-open, open-become, open-give, open-by, state-give, open-used, at-enter, givenOf, given-enter, none-some, some-inj, unbound-not-listening}
+use Rattle.laws.proofs.Tests.{cond-both}
+use Rattle.rules.proofs.Model.{Table, State, Call, fresh, after, slotOf, handle, at, isOpen, isLive, stateOf, become, give, enter, leave, connected, newHandle, freeSlot, drained, doShutdown, doClose, closeAll, nothing, run}
+use Rattle.rules.proofs.Frame.{at-put, field-put, live-open, open-become, open-used, at-enter, givenOf, given-enter, none-some, some-inj, unbound-not-listening, given-become, live-given}
 use Rattle.rules.proofs.Walk.{Steps, walk}
-use Rattle.rules.proofs.Wf.{peerOf, WellFormed, joined, kin, Kin, others-stay, not-yet}
-use Rattle.rules.proofs.WfRun.{none-open, kept-run}
+use Rattle.rules.proofs.Wf.{peerOf, WellFormed, joined, kin, Kin, others-stay, not-yet, steady-give, steady-closeAll}
+use Rattle.rules.proofs.WfRun.{none-open, kept-run, ends-peer}
 
 pub record Clients (t : Table) : Type 0 where
   -- a server that accept has not returned: its peer, where it is open, has been handed out
   pub clients : (s p : ℕ) → isOpen t s ≡ true → givenOf t s ≡ false → peerOf (stateOf t s) ≡ some p → isOpen t p ≡ true → givenOf t p ≡ true
   -- 0 is the registry and no socket
   pub born : (g : ℕ) → isOpen t g ≡ true → g ≢ 0
-
--- a state that has a peer
-pub record Joined (σ : State) (p : ℕ) : Type 0 where
-  pub inbox : Inbox
-  pub inClosed : Bool
-  pub outClosed : Bool
-  pub is : σ ≡ State.Connected p inbox inClosed outClosed
-
-pub as-connected : (σ : State) {p : ℕ} → peerOf σ ≡ some p → Joined σ p
-unfolding peerOf
-as-connected State.Unbound e = absurd (none-some e)
-as-connected (State.Bound m) e = absurd (none-some e)
-as-connected (State.Listening m b q) e = absurd (none-some e)
-as-connected (State.Connected p i x y) e = record { inbox = i; inClosed = x; outClosed = y; is = ap (λ k. State.Connected k i x y) (some-inj e) }
-
-ends-joined : (a b : Bool) (σ : State) {p : ℕ} → Joined σ p → peerOf (closeEnds a b σ) ≡ peerOf σ
-unfolding closeEnds peerOf
-ends-joined a b σ j = rw (j .is) refl
 
 -- ── a change that leaves the pairs, and takes no handle back ──
 
@@ -64,10 +46,6 @@ clients-tame {t} {u} a c =
       born = λ g o. c .born g (a .opens g o);
     }
 
-given-become : (t : Table) (h : ℕ) (σ : State) (g : ℕ) → givenOf (become t h σ) g ≡ givenOf t g
-unfolding become givenOf
-given-become t h σ g = field-put (λ s. s .given) t (slotOf h) _ (slotOf g) refl
-
 tame-become : (t : Table) (h : ℕ) (σ : State) → peerOf σ ≡ peerOf (stateOf t h) → Tame t (become t h σ)
 unfolding become stateOf
 tame-become t h σ e =
@@ -81,8 +59,8 @@ tame-give : (t : Table) (h : ℕ) → Tame t (give t h)
 unfolding give givenOf
 tame-give t h =
     record {
-      opens = λ g o. sym (open-give t h g) ∙ o;
-      peers = λ g o. ap peerOf (state-give t h g);
+      opens = steady-give t h .opens;
+      peers = steady-give t h .peers;
       given = λ g o k. ⊎-elim (λ e. ap (λ s. s .given) (e .1)) (λ e. ap (λ s. s .given) e ∙ k) (at-put t (slotOf h) _ (slotOf g));
     }
 
@@ -101,8 +79,8 @@ tame-closeAll : (t : Table) (hs : List ℕ) → Tame t (closeAll t hs .next)
 unfolding stateOf givenOf
 tame-closeAll t hs =
     record {
-      opens = λ g o. sym (open-by t (closeAll t hs .next) g (ap (λ s. s .gen) (closeAll-same t hs g o)) (ap (λ s. s .inUse) (closeAll-same t hs g o))) ∙ o;
-      peers = λ g o. ap (λ s. peerOf (s .state)) (closeAll-same t hs g o);
+      opens = steady-closeAll t hs .opens;
+      peers = steady-closeAll t hs .peers;
       given = λ g o k. ap (λ s. s .given) (closeAll-same t hs g o) ∙ k;
     }
 
@@ -110,10 +88,6 @@ tame-closeAll t hs =
 
 new-born : (n i g : ℕ) → g ≡ handle (suc n) i → g ≢ 0
 new-born n i g e = omega arith
-
-live-given : (t : Table) (h : ℕ) → isLive t h ≡ true → givenOf t h ≡ true
-unfolding isLive givenOf
-live-given t h e = and-right (isOpen t h) _ e
 
 module _ (t : Table) (w : WellFormed t) (c : Clients t) where
   clients-socket : (i : ℕ) → at t i .inUse ≡ false → Clients (enter t i true State.Unbound)
@@ -185,8 +159,7 @@ module _ (t : Table) (w : WellFormed t) (c : Clients t) where
             let u : Table = become t h (State.Connected p (cond rd nothing i) (x || rd) (y || wr)) in
             let mine : Tame t u = tame-become t h _ (rw e refl) in
             cond-both Clients (isOpen t p)
-            (λ a. let their = as-connected (stateOf u p) (mine .peers p (open-become t h _ p ∙ a) ∙ w .paired h p (live-open t h l) (rw e refl) a) in
-            clients-tame (tame-then mine (tame-become u p _ (ends-joined wr rd (stateOf u p) their))) c)
+            (λ _. clients-tame (tame-then mine (tame-become u p _ (ends-peer wr rd (stateOf u p)))) c)
             (λ _. clients-tame mine c);
         close = λ h l. clients-tame (tame-closeAll t _) c;
       }

@@ -13,6 +13,7 @@ use Rattle.rules.proofs.Frame.{live-open, open-become, open-give, state
 use Rattle.rules.proofs.Wf.{peerOf, WellFormed, joined, others-stay, Kin, kin, not-yet}
 use Rattle.rules.proofs.InboxOk.{InboxOk, append-ok, rest-ok}
 use Rattle.rules.proofs.Walk.{Steps, walk}
+use Rattle.rules.proofs.WfRun.{ends-peer}
 
 unfoldable pub inOf : State → Bool
 inOf State.Unbound = false
@@ -81,13 +82,6 @@ closeAll-old t (h ∷ hs) g o =
     let a = closeAll-old (leave t h) hs g o in
     let b = open-leave t h g (a .0) in
     (b .0, a .1 ∙ b .1)
-
-ends-peer : (a b : Bool) (σ : State) → peerOf (closeEnds a b σ) ≡ peerOf σ
-unfolding closeEnds peerOf
-ends-peer a b State.Unbound = refl
-ends-peer a b (State.Bound m) = refl
-ends-peer a b (State.Listening m k q) = refl
-ends-peer a b (State.Connected p i x y) = refl
 
 ends-out : (a b : Bool) (σ : State) {k : ℕ} → peerOf σ ≡ some k → outOf (closeEnds a b σ) ≡ (outOf σ || b)
 unfolding closeEnds peerOf outOf

@@ -224,6 +224,14 @@ module _ (t : Table) (i : ℕ) (b : Bool) (σ : State) where
 unfoldable pub givenOf : Table → ℕ → Bool
 givenOf t h = at t (slotOf h) .given
 
+pub live-given : (t : Table) (h : ℕ) → isLive t h ≡ true → givenOf t h ≡ true
+unfolding isLive givenOf
+live-given t h e = and-right (isOpen t h) _ e
+
+pub given-become : (t : Table) (h : ℕ) (σ : State) (g : ℕ) → givenOf (become t h σ) g ≡ givenOf t g
+unfolding become givenOf
+given-become t h σ g = field-put (λ s. s .given) t (slotOf h) _ (slotOf g) refl
+
 pub given-enter : (t : Table) (i : ℕ) (b : Bool) (σ : State) (g : ℕ) → at t i .inUse ≡ false → isOpen t g ≡ true → givenOf (enter t i b σ) g ≡ givenOf t g
 unfolding enter givenOf
 given-enter t i b σ g v o =

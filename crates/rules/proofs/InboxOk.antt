@@ -1,10 +1,10 @@
 -- At most C bytes queued; item groups non-empty, at strictly rising places inside the queued bytes, at most 256 items together: kept by
 -- a write and by a read.
-use mathlib.Core.Path.{_≡_, refl, subst}
+use mathlib.Core.Path.{_≡_, refl, subst, sym, ap, _∙_}
 use Prim.Native.Nat.{ℕ, suc, _+_, _-_, _≤_, _<_, min}
 use native.Mathlib.Omega.{arith}
 use mathlib.Core.Bool.{Bool, true, false, not, _&&_, true≢false}
-use mathlib.Core.List.{List, [], _∷_, _++_, map, append-nil}
+use mathlib.Core.List.{List, [], _∷_, _++_, map, append-nil, append-assoc}
 use lib.ListN.{length, take, length-append, length-take, length-drop}
 use lib.Dec.{ltb, eqb}
 use borrow.Author.Tests.{ltb-false}
@@ -31,12 +31,12 @@ snoc : (low len len′ : ℕ) (ms : List Group) (its : List ℕ) → low ≤ len
 snoc low len len′ [] its a l n r = (a, l, n, tt)
 snoc low len len′ (m ∷ ms) its a l n r = (r .0, omega arith, r .2, snoc (suc (m .place)) len len′ ms its (r .1) l n (r .3))
 
-items-append : (ms ns : List Group) → length (allItems (ms ++ ns)) ≡ length (allItems ms) + length (allItems ns)
+pub items-append : (ms ns : List Group) → allItems (ms ++ ns) ≡ allItems ms ++ allItems ns
 unfolding allItems
-items-append [] ns = omega arith
-items-append (m ∷ ms) ns = simp (length-append, items-append ms ns) (omega arith)
+items-append [] ns = refl
+items-append (m ∷ ms) ns = ap (λ (l : List ℕ). m .items ++ l) (items-append ms ns) ∙ sym (append-assoc (m .items) (allItems ms) (allItems ns))
 
-nil-length : (xs : List ℕ) → isNil xs ≡ false → 1 ≤ length xs
+pub nil-length : (xs : List ℕ) → isNil xs ≡ false → 1 ≤ length xs
 unfolding isNil
 nil-length [] e = absurd (true≢false e)
 nil-length (x ∷ xs) e = omega arith
@@ -84,7 +84,7 @@ shift-first low len k n (m ∷ ms) e r =
     let z : suc (m .place) - k ≡ suc (m .place - k) = omega arith in
     (omega arith, omega arith, r .2, subst (λ z. Rising z (len - k) (map (nearer k) ms)) z (shift (suc (m .place)) len k ms (omega arith) (r .3)))
 
-upTo-le : (ms : List Group) (n : ℕ) → upTo ms n ≤ n
+pub upTo-le : (ms : List Group) (n : ℕ) → upTo ms n ≤ n
 unfolding upTo
 upTo-le [] n = omega arith
 upTo-le (m ∷ ms) n = omega arith
@@ -99,10 +99,10 @@ unfolding others allItems
 others-few [] = omega arith
 others-few (m ∷ ms) = cond-both (λ o. length (allItems o) ≤ length (m .items ++ allItems ms)) (eqb (m .place) 0) (λ _. simp length-append (omega arith)) (λ _. simp length-append (omega arith))
 
-nearer-few : (k : ℕ) (ms : List Group) → length (allItems (map (nearer k) ms)) ≡ length (allItems ms)
+pub items-nearer : (k : ℕ) (ms : List Group) → allItems (map (nearer k) ms) ≡ allItems ms
 unfolding allItems nearer
-nearer-few k [] = refl
-nearer-few k (m ∷ ms) = simp (length-append, nearer-few k ms)
+items-nearer k [] = refl
+items-nearer k (m ∷ ms) = ap (λ (l : List ℕ). m .items ++ l) (items-nearer k ms)
 
 pub rest-ok : (c : ℕ) (b : Inbox) (n : ℕ) → InboxOk c b → InboxOk c (rest b (moved b n))
 unfolding rest moved
@@ -112,5 +112,5 @@ rest-ok c b n ok =
     record {
       fits = rw length-drop (omega (arith, ok .fits));
       rising = rw length-drop (shift-first (r .0) (length (b .bytes)) k (min n (length (b .bytes))) (others (b .groups)) refl (r .1));
-      few = rw nearer-few (omega (arith, others-few (b .groups), ok .few));
+      few = rw items-nearer (omega (arith, others-few (b .groups), ok .few));
     }

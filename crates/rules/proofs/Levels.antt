@@ -1,7 +1,7 @@
 -- The bits of a socket's readiness: in one call none rises, or the socket is woken.
 use mathlib.Core.Path.{_≡_, refl, sym, ap, _∙_, subst}
 use mathlib.Core.Logic.{_⊎_, inl, inr, ⊎-elim}
-use mathlib.Core.Option.{none}
+use mathlib.Core.Option.{none, some}
 use Prim.Native.Nat.{ℕ, _+_, _/_, _%_, _≤_}
 use native.Mathlib.Omega.{arith}
 use mathlib.Core.Bool.{Bool, true, false, cond, not, _&&_, _||_, true≢false, false≢true, and-false}
@@ -10,9 +10,9 @@ use borrow.Author.Tests.{le-ltb, ltb-false, not-false}
 use Rattle.laws.proofs.Tests.{cond-both, or-left, or-right}
 use Rattle.rules.specs.WellFormed.{isConnected}
 use Rattle.rules.proofs.Model.{Table, State, Inbox, Call, at, isOpen, stateOf, isNil, queued, hasRoom, ready, run}
+use Rattle.rules.proofs.Frame.{none-some, some-inj}
 use Rattle.rules.proofs.Wf.{peerOf, WellFormed}
 use Rattle.rules.proofs.Ends.{outOf}
-use Rattle.rules.proofs.Clients.{Joined, as-connected}
 use Rattle.rules.proofs.Calm.{End, Look, Fact, Shows, key, Calm}
 use Rattle.rules.proofs.Each.{calm-run}
 use Rattle.rules.proofs.Moves.{Next, Moves, tells-run}
@@ -23,6 +23,20 @@ pub record Level (r r′ : ℕ) : Type 0 where
   pub read : r′ % 2 ≤ r % 2
   pub write : r′ / 2 % 2 ≤ r / 2 % 2
   pub hung : r′ / 4 ≤ r / 4
+
+-- a state that has a peer
+record Joined (σ : State) (p : ℕ) : Type 0 where
+  inbox : Inbox
+  inClosed : Bool
+  outClosed : Bool
+  is : σ ≡ State.Connected p inbox inClosed outClosed
+
+as-connected : (σ : State) {p : ℕ} → peerOf σ ≡ some p → Joined σ p
+unfolding peerOf
+as-connected State.Unbound e = absurd (none-some e)
+as-connected (State.Bound m) e = absurd (none-some e)
+as-connected (State.Listening m b q) e = absurd (none-some e)
+as-connected (State.Connected p i x y) e = record { inbox = i; inClosed = x; outClosed = y; is = ap (λ k. State.Connected k i x y) (some-inj e) }
 
 -- of a socket that is not connected
 plain-ready : (t : Table) (σ : State) → isConnected σ ≡ false → ready t σ ≡ cond (isNil (queued σ)) 0 1

@@ -9,9 +9,8 @@ use mathlib.Core.List.{List, [], _∷_, _++_, List·Memᴰ, List·Memᴰ·head, 
 use lib.ListN.{length}
 use Rattle.rules.specs.WellFormed.{isConnected}
 use Rattle.rules.proofs.Model.{Table, State, slotOf, handle, at, isOpen, stateOf, become, give, enter, leave, queued, closeAll}
-use Rattle.rules.proofs.Frame.{cons-nil}
 use Rattle.rules.proofs.Calm.{fewer-closeAll}
-use Rattle.rules.proofs.Frame.{at-put-same, at-put-other, field-put, in-range, open-by, open-used, open-same, open-become, open-give, open-leave, at-enter, enter-open, enter-new, state-become, state-become-same, state-give, become-at, give-at, slot-handle, givenOf, given-enter, given-new}
+use Rattle.rules.proofs.Frame.{at-put-same, at-put-other, field-put, in-range, open-by, open-used, open-same, open-become, open-give, open-leave, at-enter, enter-open, enter-new, state-become, state-become-same, state-give, become-at, give-at, slot-handle, givenOf, given-enter, given-new, cons-nil, given-become}
 
 abbrev pub In : ℕ → State → Type 0
 In s σ = List·Memᴰ s (queued σ)
@@ -74,10 +73,6 @@ even-then a b =
       queue = λ g o. b .queue g (a .opens g ∙ o) ∙ a .queue g o;
       conns = λ g o z. b .conns g (a .opens g ∙ o) (a .conns g o z);
     }
-
-given-become : (t : Table) (h : ℕ) (σ : State) (g : ℕ) → givenOf (become t h σ) g ≡ givenOf t g
-unfolding become givenOf
-given-become t h σ g = field-put (λ s. s .given) t (slotOf h) _ (slotOf g) refl
 
 pub even-become : (t : Table) (h : ℕ) (σ : State) → queued σ ≡ queued (stateOf t h) → (isConnected (stateOf t h) ≡ true → isConnected σ ≡ true) → Even t (become t h σ)
 unfolding become stateOf

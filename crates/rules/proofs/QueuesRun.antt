@@ -4,19 +4,15 @@ use Prim.Native.Nat.{ℕ, _≤_}
 use mathlib.Core.Bool.{Bool, true, false, cond, _||_}
 use mathlib.Core.List.{List, [], _∷_, _++_}
 use lib.ListN.{length}
-use Rattle.laws.proofs.Tests.{and-right, cond-both}
+use Rattle.laws.proofs.Tests.{cond-both}
 use Rattle.rules.specs.WellFormed.{isConnected}
-use Rattle.rules.proofs.Model.{Table, State, Call, Outcome, fresh, after, isOpen, isLive, become, connected, newHandle, freeSlot, drained, doShutdown, doClose, closeEnds, queued, nothing, run}
-use Rattle.rules.proofs.Frame.{live-open, givenOf}
+use Rattle.rules.proofs.Model.{Table, State, Call, Outcome, fresh, after, isOpen, become, connected, newHandle, freeSlot, drained, doShutdown, doClose, closeEnds, queued, nothing, run}
+use Rattle.rules.proofs.Frame.{live-open, live-given}
 use Rattle.rules.proofs.Wf.{WellFormed}
 use Rattle.rules.proofs.WfRun.{kept-run, none-open, wf-fresh}
 use Rattle.rules.proofs.Walk.{Steps, walk}
 use Rattle.rules.proofs.Ends.{Ends, Inboxes, ends-run, in-run}
 use Rattle.rules.proofs.Queues.{Queues, Even, queues-even, even-become, even-then, queues-accept, queues-connect, queues-close, queues-socket}
-
-live-given : (t : Table) (h : ℕ) → isLive t h ≡ true → givenOf t h ≡ true
-unfolding isLive givenOf
-live-given t h e = and-right (isOpen t h) _ e
 
 ends-queue : (a b : Bool) (σ : State) → queued (closeEnds a b σ) ≡ queued σ
 unfolding closeEnds queued

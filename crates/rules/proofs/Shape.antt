@@ -7,11 +7,12 @@ use mathlib.Core.Bool.{Bool, true, false, cond, _||_, true≢false, false≢true
 use mathlib.Core.List.{List, [], _∷_, List·Memᴰ·head}
 use lib.ListN.{length}
 use Rattle.laws.proofs.Tests.{cond-both}
-use Rattle.rules.proofs.Model.{Table, Slot, State, Inbox, Call, closed, fresh, at, put, slotOf, isOpen, stateOf, become, give, enter, leave, isNil, connected, newHandle, freeSlot, drained, closeEnds, doShutdown, doClose, closeAll, queued, nothing, run}
+use Rattle.rules.proofs.Model.{Table, Slot, State, Inbox, Call, closed, fresh, at, put, slotOf, isOpen, stateOf, become, give, enter, leave, connected, newHandle, freeSlot, drained, closeEnds, doShutdown, doClose, closeAll, queued, nothing, run}
 use Rattle.rules.proofs.Frame.{at-put, open-used, open-handle, live-open, open-become, enter-open}
 use Rattle.rules.proofs.Walk.{Steps, walk}
 use Rattle.rules.proofs.Queues.{Queues}
 use Rattle.rules.proofs.WfRun.{vacant-all}
+use Rattle.rules.proofs.InboxOk.{nil-length}
 
 -- a state's name has 1 to 255 bytes, and its peer lives or has lived
 abbrev pub StateGood : State → Type 0
@@ -66,11 +67,6 @@ shape-closeAll t [] w = w
 shape-closeAll t (h ∷ hs) w = shape-closeAll (leave t h) hs (shape-leave t h w)
 
 -- ── Every call ──
-
-nil-length : (xs : List ℕ) → isNil xs ≡ false → 1 ≤ length xs
-unfolding isNil
-nil-length [] e = absurd (true≢false e)
-nil-length (x ∷ xs) e = omega arith
 
 -- the state of an open socket, and its handle's generation
 of-state : (t : Table) (h : ℕ) (σ : State) → Shape t → stateOf t h ≡ σ → StateGood σ

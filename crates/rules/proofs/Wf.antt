@@ -111,7 +111,7 @@ steady-closeAll t (h ∷ hs) = steady-then (steady-leave t h) (steady-closeAll (
 
 -- ── bind ──
 
-same-eq : (xs ys : List ℕ) → same xs ys ≡ true → xs ≡ ys
+pub same-eq : (xs ys : List ℕ) → same xs ys ≡ true → xs ≡ ys
 unfolding same
 same-eq [] [] e = refl
 same-eq [] (y ∷ ys) e = absurd (false≢true e)

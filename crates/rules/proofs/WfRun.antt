@@ -6,12 +6,11 @@ use mathlib.Core.List.{List, [], _∷_}
 use lib.ListN.{length, getD, replicate, length-replicate}
 use Rattle.laws.proofs.Tests.{cond-both}
 use Rattle.rules.proofs.Model.{Table, State, Call, vacant, fresh, after, slotOf, at, isOpen, stateOf, become, freeSlot, newHandle, nothing, closeEnds, connected, drained, doShutdown, doClose, run}
-use Rattle.rules.proofs.Frame.{live-open, open-used}
-use Rattle.rules.proofs.Frame.{unbound-not-listening}
+use Rattle.rules.proofs.Frame.{live-open, open-used, unbound-not-listening}
 use Rattle.rules.proofs.Walk.{Steps, walk}
 use Rattle.rules.proofs.Wf.{peerOf, nameOf, WellFormed, Steady, wf-steady, steady-then, steady-become, steady-give, steady-closeAll, wf-bind, wf-enter, joined, wf-joined, others-stay}
 
-ends-peer : (a b : Bool) (σ : State) → peerOf (closeEnds a b σ) ≡ peerOf σ
+pub ends-peer : (a b : Bool) (σ : State) → peerOf (closeEnds a b σ) ≡ peerOf σ
 unfolding closeEnds peerOf
 ends-peer a b State.Unbound = refl
 ends-peer a b (State.Bound m) = refl

@@ -12,7 +12,7 @@ use mathlib.Core.List.{List, [], _∷_, List·Memᴰ, List·Memᴰ·head, List·
 use lib.ListN.{length, List·getD-eq-default}
 use lib.Dec.{leb, ltb, eqb}
 use borrow.Author.Tests.{eq-eqb, ne-eqb, eqb-true, eqb-false, le-leb, leb-true, lt-ltb, ltb-true, not-true}
-use Rattle.laws.proofs.Tests.{and-left, and-right, and-three, and-four, less-or}
+use Rattle.laws.proofs.Tests.{and-left, and-right, and-three, and-four, less-or, both}
 use Rattle.rules.specs.WellFormed.{every, each, implies, alone, namedWell, pointsAt, linkedWell, rising, inboxWell, isPending, queuedIn, pendingWell, stateWell, isUnbound, slotWell, wellFormed}
 use Rattle.rules.proofs.Model.{Table, Slot, State, Inbox, Group, Call, vacant, fresh, after, slotOf, handleAt, at, isOpen, stateOf, holds, isNil, queued, inRange, run}
 use Rattle.rules.proofs.Frame.{open-used, open-handle, open-same, open-at, in-range, none-some, some-inj, givenOf}
@@ -50,18 +50,15 @@ unfolding each
 at-each [] p f = refl
 at-each (y ∷ xs) p f = rw (f y (List·Memᴰ·head refl)) (at-each xs p (λ x m. f x (List·Memᴰ·tail m)))
 
-use-implies : (a b : Bool) → implies a b ≡ true → a ≡ true → b ≡ true
+pub use-implies : (a b : Bool) → implies a b ≡ true → a ≡ true → b ≡ true
 unfolding implies
 use-implies true b e h = e
 use-implies false b e h = absurd (false≢true h)
 
-make-implies : (a b : Bool) → (a ≡ true → b ≡ true) → implies a b ≡ true
+pub make-implies : (a b : Bool) → (a ≡ true → b ≡ true) → implies a b ≡ true
 unfolding implies
 make-implies true b f = f refl
 make-implies false b f = refl
-
-both : (a b : Bool) → a ≡ true → b ≡ true → a && b ≡ true
-both a b p q = rw p q
 
 beq-true : (a b : Bool) → Bool·beq a b ≡ true → a ≡ b
 beq-true true true e = refl
@@ -93,13 +90,13 @@ unfolding rising
 is-rising a b [] r = refl
 is-rising a b (g ∷ gs) r = rw (r .2, le-leb a (g .place) (r .0), lt-ltb (g .place) b (r .1)) (is-rising (suc (g .place)) b gs (r .3))
 
-inbox-is : (t : Table) (i : Inbox) → inboxWell t i ≡ true → InboxOk (t .capacity) i
+pub inbox-is : (t : Table) (i : Inbox) → inboxWell t i ≡ true → InboxOk (t .capacity) i
 unfolding inboxWell
 inbox-is t i e =
     let l = and-three (leb (length (i .bytes)) (t .capacity)) (rising 0 (length (i .bytes)) (i .groups)) _ e in
     record { fits = leb-true _ _ (l .0); rising = rising-is 0 _ _ (l .1); few = leb-true _ _ (l .2) }
 
-is-inbox : (t : Table) (i : Inbox) → InboxOk (t .capacity) i → inboxWell t i ≡ true
+pub is-inbox : (t : Table) (i : Inbox) → InboxOk (t .capacity) i → inboxWell t i ≡ true
 unfolding inboxWell
 is-inbox t i o = rw (le-leb _ _ (o .fits), is-rising 0 _ _ (o .rising), le-leb _ _ (o .few))
 

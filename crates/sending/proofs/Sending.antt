@@ -38,6 +38,7 @@ use Rattle.storage.specs.declared.Slot.{Slot}
 use Rattle.storage.specs.declared.State.{State}
 use Rattle.storage.specs.declared.State.the-variants.{Connected}
 use Rattle.storage.specs.declared.Connection.{Connection}
+use Rattle.storage.proofs.Coding.{loaded-generation, loaded-state, loadedAt}
 use Rattle.storage.proofs.Pasted.{length-part}
 use Rattle.storage.proofs.Strides.{row-before}
 use Rattle.storage.proofs.Framing.{store-rows, places-rows, ring-rows, tokens-rows}
@@ -53,7 +54,7 @@ use Rattle.promise.proofs.Asked.{slot-in}
 use Rattle.promise.proofs.Live.{Opened, opened, Live, live, live-run, stale-run, state-seen}
 use Rattle.promise.proofs.Kept.{row-changed}
 use Rattle.promise.proofs.Changed.{row-stored, accepted-done}
-use Rattle.promise.proofs.Called.{loadedAt, Unconnected, unconnected}
+use Rattle.promise.proofs.Called.{Unconnected, unconnected}
 use Rattle.promise.proofs.Held.{ring-long, places-long, tokens-long, inboxIn, Sized, sized, Held, held, hidden-of, placed-same, connected-fit, connected-keeps, connected-put}
 use Rattle.sending.specs.Parts.{Sends}
 
@@ -275,15 +276,12 @@ module _ {n c : ℕ} {w b t : List ℕ} {u v : ℕ} (a : Admitted n c (lent w b 
   peer-in = slot-in a j peer-less
 
   module _ (slot : Slot) (es : slot ≡ loadedAt w j) where
-    loaded : slot ≡ loadedAt w (slotOf p)
-    loaded = es ∙ ap (loadedAt w) ej
-
     pub sends-damaged : (buf its : List ℕ) (l : Lists) (r : Answer) → Unconnected (slot .state) → r ≡ refusedWith 19
         → Sends n c (lent w b t) (lent w b t) p buf its l l r
     unfolding send
     sends-damaged buf its l r k er =
         let seen : model.stateOf (view n c st) p ≡ showIn (rowAt n c st (slotOf p)) (cellAt w (slotOf p) .generation) (slot .state) .state =
-        state-seen n c st p (slot .state) (op .within) (sym (ap (λ (q : Slot). q .state) loaded)) in
+        state-seen n c st p (slot .state) (op .within) (sym (loaded-state w ej es)) in
         record {
           sends = λ call to.
               refused-done _ 19 n c st l r
@@ -294,7 +292,7 @@ module _ {n c : ℕ} {w b t : List ℕ} {u v : ℕ} (a : Admitted n c (lent w b 
 
     module _ (con : Connection) (ec : slot .state ≡ Connected con) where
       at-slot : stateOf (cellAt w (slotOf p)) ≡ Connected con
-      at-slot = sym (ap (λ (q : Slot). q .state) loaded) ∙ ec
+      at-slot = sym (loaded-state w ej es) ∙ ec
 
       at-hand : Held n c (lent w b t) p (slotOf p) con
       at-hand = held n c st p (slotOf p) con (known a) refl (sym (open-view n c st p) ∙ o) at-slot
@@ -324,7 +322,7 @@ module _ {n c : ℕ} {w b t : List ℕ} {u v : ℕ} (a : Admitted n c (lent w b 
           sends-pushed l r q w₁ b₁ t₁ w₂ x lw lb lt ew er =
               pushed-at n c w b t l buf its (known a) p o con at-slot d ed r may-push q w₁ b₁ t₁
               (subst (λ (i : ℕ). PushesAt n c i (lent w b t) (lent w₁ b₁ t₁) buf its (con .inbox) q) ej x) lw lb lt w₂
-              (ew ∙ ap₂ (λ (i : ℕ) (g : ℕ). storeAt w₁ i (cellOf g (Connected (withInbox con (q .inbox))))) ej (ap (λ (z : Slot). z .generation) loaded)) er
+              (ew ∙ ap₂ (λ (i : ℕ) (g : ℕ). storeAt w₁ i (cellOf g (Connected (withInbox con (q .inbox))))) ej (loaded-generation w ej es)) er
 
   pub peer-still : (w₁ : List ℕ) → length w₁ ≡ length w → 8 + 16 * j + 16 ≤ length w₁
   peer-still w₁ e = let z = peer-in in omega arith
@@ -349,7 +347,7 @@ module _ {n c : ℕ} {w b t : List ℕ} {u v : ℕ} (a : Admitted n c (lent w b 
 
     module _ (i : ℕ) (ei : i ≡ slotOf h) (slot : Slot) (es : slot ≡ loadedAt w i) where
       here : stateOf (cellAt w (slotOf h)) ≡ slot .state
-      here = sym (ap (λ (q : Slot). q .state) (es ∙ ap (loadedAt w) ei))
+      here = sym (loaded-state w ei es)
 
       state-of : model.stateOf (view n c (lent w b t)) h ≡ showIn (rowAt n c (lent w b t) (slotOf h)) (cellAt w (slotOf h) .generation) (slot .state) .state
       state-of = state-seen n c (lent w b t) h (slot .state) (lv .within) here

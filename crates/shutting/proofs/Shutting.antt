@@ -40,21 +40,22 @@ use Rattle.storage.specs.declared.Slot.{Slot}
 use Rattle.storage.specs.declared.State.{State}
 use Rattle.storage.specs.declared.State.the-variants.{Closed, Unbound, Bound, Listening, Connected}
 use Rattle.storage.specs.declared.Connection.{Connection}
+use Rattle.storage.proofs.Coding.{connected-inj, loaded-generation, loaded-state, loadedAt}
 use Rattle.storage.proofs.Framing.{store-rows}
 use Rattle.storage.proofs.Around.{store-around, around-then, roomy-around}
 use Rattle.storage.proofs.Viewed.{open-view, put-view}
 use Rattle.table.specs.Admission.{Admitted}
-use Rattle.promise.specs.Answers.{refusedWith}
+use Rattle.promise.specs.Answers.{refusedWith, releasedWith}
 use Rattle.promise.specs.Promise.{Lists, lists, Stored, Done}
 use Rattle.promise.specs.declared.Answer.{Answer}
 use Rattle.promise.proofs.Known.{Known, known, refused-done}
 use Rattle.promise.proofs.Asked.{slot-in}
-use Rattle.promise.proofs.Kept.{connected-inj, Keeps, keeps-same, row-changed, row-other}
+use Rattle.promise.proofs.Kept.{Keeps, keeps-same, row-changed, row-other}
 use Rattle.promise.proofs.Changed.{Fit, fit-same, row-stored, rows-kept, released-done}
-use Rattle.promise.proofs.Called.{loadedAt, Unconnected, not-connected, unconnected}
+use Rattle.promise.proofs.Called.{Unconnected, not-connected, unconnected}
 use Rattle.promise.proofs.Held.{ring-long, places-long, tokens-long, Held, held, placed-same, connected-fit, connected-keeps, connected-put}
 use Rattle.promise.proofs.Live.{Live, live, opened, live-run, stale-run, state-seen}
-use Rattle.shutting.specs.Parts.{readsOf, writesOf, shutWith, endedWith, leftOf, droppedOf, Drops, Ends, Follows, Shuts}
+use Rattle.shutting.specs.Parts.{readsOf, writesOf, endedWith, leftOf, droppedOf, Drops, Ends, Follows, Shuts}
 use Rattle.shutting.proofs.Ended.{left-range, left-shows, dropped-all, dropped-long, left-hidden, stays-hidden}
 
 -- ── The parts ──
@@ -165,7 +166,7 @@ module _ (n c : ℕ) (w b t : List ℕ) (kn : Known n c (lent w b t)) (h i : ℕ
     unfolding rowAt
     released-is = en .released-are ∙ dropped-long (row .places) (row .tokens) (k .inbox) lp lt (hd .range .first-in) (hd .range .items-in) rd ∙ ap length items-are
 
-    pub shut-alone : (wk : List ℕ) (r : Answer) → isOpen (view n c (lent w b t)) (k .peer .0) ≡ false → r ≡ shutWith 1 m
+    pub shut-alone : (wk : List ℕ) (r : Answer) → isOpen (view n c (lent w b t)) (k .peer .0) ≡ false → r ≡ releasedWith 1 m
         → Shuts n c (lent w b t) (lent w₁ b t) h rd wr (lists wk rl) (lists (set wk 0 h) rl′) r
     shut-alone wk r o er =
         record {
@@ -250,7 +251,7 @@ module _ (n c : ℕ) (w b t : List ℕ) (kn : Known n c (lent w b t)) (h i : ℕ
           (ap (λ (z : ℕ). at t₁ z .state) (sym (hp .is-slot)) ∙ ap (λ (x : model.Slot). x .state) peer-shown)
           ∙ connected-put (rowAt n c s j) row₂ (cellAt w j .generation) k₂ k₃ peer-says refl refl t₁ (k .peer .0) j (hp .is-slot) peer-shown
 
-      pub shut-both : (w₂ wk : List ℕ) (r : Answer) → w₂ ≡ storeAt w₁ j cell₂ → r ≡ shutWith 2 m
+      pub shut-both : (w₂ wk : List ℕ) (r : Answer) → w₂ ≡ storeAt w₁ j cell₂ → r ≡ releasedWith 2 m
           → Shuts n c (lent w b t) (lent w₂ b t) h rd wr (lists wk rl) (lists (set (set wk 0 h) 1 (k .peer .0)) rl′) r
       shut-both w₂ wk r ew er =
           record {
@@ -275,19 +276,16 @@ module _ (p : ℕ) (rd wr : Bool) (w : List ℕ) (j : ℕ) (ej : j ≡ slotOf p)
   follow-in h = omega arith
 
   module _ (slot : Slot) (es : slot ≡ loadedAt w j) where
-    loaded-at : slot ≡ loadedAt w (slotOf p)
-    loaded-at = es ∙ ap (loadedAt w) ej
-
     pub follows-not : Unconnected (slot .state) → Follows p rd wr w w
-    follows-not u = record { words = λ k e. absurd (not-connected (slot .state) u k (ap (λ (q : Slot). q .state) loaded-at ∙ e)) }
+    follows-not u = record { words = λ k e. absurd (not-connected (slot .state) u k (loaded-state w ej es ∙ e)) }
 
     pub follows : (k : Connection) → slot .state ≡ Connected k → (w′ : List ℕ) → w′ ≡ storeAt w j (cellOf (slot .generation) (Connected (endedWith k (k .inbox) wr rd))) → Follows p rd wr w w′
     follows k ek w′ ew =
         record {
           words = λ k₂ e.
-              let same : k ≡ k₂ = connected-inj (sym ek ∙ ap (λ (q : Slot). q .state) loaded-at ∙ e) in
+              let same : k ≡ k₂ = connected-inj (sym ek ∙ loaded-state w ej es ∙ e) in
               ew ∙ ap₂ (λ (x : ℕ) (q : Connection). storeAt w x (cellOf (slot .generation) (Connected (endedWith q (q .inbox) wr rd)))) ej same
-              ∙ ap (λ (q : Slot). storeAt w (slotOf p) (cellOf (q .generation) (Connected (endedWith k₂ (k₂ .inbox) wr rd)))) loaded-at;
+              ∙ ap (λ (g : ℕ). storeAt w (slotOf p) (cellOf g (Connected (endedWith k₂ (k₂ .inbox) wr rd)))) (loaded-generation w ej es);
         }
 
 -- ── shut ──
@@ -311,9 +309,6 @@ module _ {n c : ℕ} {w b t : List ℕ} {u v : ℕ} (a : Admitted n c (lent w b 
 
     module _ (i : ℕ) (ei : i ≡ slotOf h) where
       module _ (slot : Slot) (es : slot ≡ loadedAt w i) where
-        loaded : slot ≡ loadedAt w (slotOf h)
-        loaded = es ∙ ap (loadedAt w) ei
-
         pub shuts-apart : (rd wr : Bool) (l : Lists) (r : Answer) → Unconnected (slot .state) → r ≡ refusedWith 9
             → Shuts n c (lent w b t) (lent w b t) h rd wr l l r
         unfolding doShutdown
@@ -322,7 +317,7 @@ module _ {n c : ℕ} {w b t : List ℕ} {u v : ℕ} (a : Admitted n c (lent w b 
             record {
               shuts = λ call to.
                   refused-done _ 9 n c (lent w b t) l r
-                  (to ∙ ap (doShutdown tb h rd wr) (state-seen n c (lent w b t) h (slot .state) (lv .within) (sym (ap (λ (q : Slot). q .state) loaded)))
+                  (to ∙ ap (doShutdown tb h rd wr) (state-seen n c (lent w b t) h (slot .state) (lv .within) (sym (loaded-state w ei es)))
                   ∙ unconnected (λ σ. doShutdown tb h rd wr σ ≡ refuse tb 9) refl (λ m. refl) (λ m d q. refl) (rowAt n c (lent w b t) (slotOf h)) (cellAt w (slotOf h) .generation) (slot .state) k)
                   (λ z. omega arith) er;
             }
@@ -347,7 +342,7 @@ module _ {n c : ℕ} {w b t : List ℕ} {u v : ℕ} (a : Admitted n c (lent w b 
               ended : Ends c i (cellAt w i .generation) k rd wr w w₁ t rl rl′ m
               ended = subst (λ (g : ℕ). Ends c i g k rd wr w w₁ t rl rl′ m) (ap (λ (q : Slot). q .generation) es) en
 
-              pub shuts-alone : (wk : List ℕ) (r : Answer) → not f ≡ true → r ≡ shutWith 1 m → Shuts n c (lent w b t) (lent w₁ b t) h rd wr (lists wk rl) (lists (set wk 0 h) rl′) r
+              pub shuts-alone : (wk : List ℕ) (r : Answer) → not f ≡ true → r ≡ releasedWith 1 m → Shuts n c (lent w b t) (lent w₁ b t) h rd wr (lists wk rl) (lists (set wk 0 h) rl′) r
               shuts-alone wk r z er = shut-alone n c w b t (known a) h i k at-hand rd wr w₁ rl rl′ m ended wk r (gone ∙ not-true f z) er
 
               module _ (z : not f ≡ false) where
@@ -388,7 +383,7 @@ module _ {n c : ℕ} {w b t : List ℕ} {u v : ℕ} (a : Admitted n c (lent w b 
                     let y = ap length (ended .words) ∙ store-around n c w b t (known a .roomy) i (at-hand .within) cell .words-long in
                     omega arith
 
-                pub shuts-both : (w₂ wk : List ℕ) (r : Answer) → Follows (k .peer .0) rd wr w₁ w₂ → r ≡ shutWith 2 m
+                pub shuts-both : (w₂ wk : List ℕ) (r : Answer) → Follows (k .peer .0) rd wr w₁ w₂ → r ≡ releasedWith 2 m
                     → Shuts n c (lent w b t) (lent w₂ b t) h rd wr (lists wk rl) (lists (set (set wk 0 h) 1 (k .peer .0)) rl′) r
                 shuts-both w₂ wk r fo er =
                     let j = slotOf (k .peer .0) in

@@ -33,9 +33,6 @@ writesOf ShutdownHow.Read = false
 writesOf ShutdownHow.Write = true
 writesOf ShutdownHow.Both = true
 
-abbrev pub shutWith : (wakes released : ℕ) → Answer
-shutWith w r = record { refusal = 0; flags = 0; value = 0; items = 0; wakes = w; releases = r }
-
 -- a connection with another inbox, and with ends that close
 abbrev pub endedWith : Connection → Inbox → (inbox outbox : Bool) → Connection
 endedWith k q x y =

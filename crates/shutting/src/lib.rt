@@ -12,8 +12,9 @@ ghost use Rattle.storage.specs.Rows.{lent};
 ghost use Rattle.storage.specs.Finding.{liveIn};
 ghost use Rattle.storage.specs.declared.State.the-variants.{Connected};
 ghost use Rattle.table.specs.Admission.{Admitted};
+ghost use Rattle.promise.specs.Answers.{releasedWith};
 ghost use Rattle.promise.specs.Promise.{lists, Runs};
-ghost use Rattle.shutting.specs.Parts.{readsOf, writesOf, shutWith, endedWith, Drops, Ends, Follows, Shuts};
+ghost use Rattle.shutting.specs.Parts.{readsOf, writesOf, endedWith, Drops, Ends, Follows, Shuts};
 use abi::How;
 use abi::ShutdownHow;
 use inbox::Discarded;
@@ -119,7 +120,7 @@ fn shut(
 }
 
 fn shut_down(wakes: u64, released: usize) -> Answer
-    ensures { λ r. ⌜ r ≡ shutWith wakes released ⌝ }
+    ensures { λ r. ⌜ r ≡ releasedWith wakes released ⌝ }
 {
     Answer {
         refusal: 0,

@@ -43,9 +43,21 @@ module _ (k : Cell) where
 
 -- ── load and store ──
 
+-- what `load` answers
+abbrev pub loadedAt : List ℕ → ℕ → Slot
+loadedAt w i = record { generation = cellAt w i .generation; state = stateOf (cellAt w i) }
+
 pub loaded : (w : List ℕ) (i : ℕ) (k : Cell) (s : State) → k ≡ cellAt w i → s ≡ stateOf k
-    → _≡_ {A = Slot} (record { generation = k .generation; state = s }) (record { generation = cellAt w i .generation; state = stateOf (cellAt w i) })
+    → _≡_ {A = Slot} (record { generation = k .generation; state = s }) (loadedAt w i)
 loaded w i k s e z = ap₂ (λ (g : ℕ) (x : State). record { generation = g; state = x }) (ap (λ (x : Cell). x .generation) e) (z ∙ ap stateOf e)
+
+-- the slot that was loaded is that of j
+module _ (w : List ℕ) {i j : ℕ} {s : Slot} (e : i ≡ j) (z : s ≡ loadedAt w i) where
+  pub loaded-generation : s .generation ≡ cellAt w j .generation
+  loaded-generation = ap (λ (x : Slot). x .generation) z ∙ ap (λ (x : ℕ). cellAt w x .generation) e
+
+  pub loaded-state : s .state ≡ stateOf (cellAt w j)
+  loaded-state = ap (λ (x : Slot). x .state) z ∙ ap (λ (x : ℕ). stateOf (cellAt w x)) e
 
 pub flag-is : (b : Bool) → boolByte b ≡ flag b
 flag-is true = refl
@@ -120,3 +132,25 @@ back-gen g (Connected c) = refl
 
 pub stored : (w w′ : List ℕ) (i : ℕ) (k : Cell) (s : Slot) → k ≡ cellOf (s .generation) (s .state) → w′ ≡ storeAt w i k → w′ ≡ storeAt w i (cellOf (s .generation) (s .state))
 stored w w′ i k s e h = h ∙ ap (storeAt w i) e
+
+-- ── What a state holds ──
+
+pub listening-inj : {a b : Listener} → Listening a ≡ Listening b → a ≡ b
+listening-inj {a} {b} e = ap (of a) e
+  where
+    of : Listener → State → Listener
+    of d Closed = d
+    of d Unbound = d
+    of d (Bound m) = d
+    of d (Listening q) = q
+    of d (Connected k) = d
+
+pub connected-inj : {a b : Connection} → Connected a ≡ Connected b → a ≡ b
+connected-inj {a} {b} e = ap (of a) e
+  where
+    of : Connection → State → Connection
+    of d Closed = d
+    of d Unbound = d
+    of d (Bound m) = d
+    of d (Listening q) = d
+    of d (Connected k) = k

@@ -1,8 +1,8 @@
 -- What the searches and the tests leave at each return.
-use mathlib.Core.Path.{_≡_, refl, sym, ap, ap₂, _∙_}
+use mathlib.Core.Path.{_≡_, refl, sym, ap, _∙_}
 use mathlib.Core.Logic.{_⊎_, inl, inr}
 use mathlib.Core.Bool.{Bool, true, false, cond, not, false≢true}
-use mathlib.Core.List.{List, [], _∷_}
+use mathlib.Core.List.{List}
 use Prim.Native.Nat.{ℕ, zero, suc, _+_, _-_, _*_, _/_, _%_, _≤_, _<_, min}
 use native.Mathlib.Nat.{not-suc-le-zero}
 use native.Mathlib.Decide.{decLt, ℕ-discrete as decEq}
@@ -10,11 +10,11 @@ use native.Mathlib.Omega.{arith}
 use lib.Dec.{eqb, ltb}
 use lib.ListN.{length, take, drop, getD}
 use lib.Seq.{take-take, take-all}
-use borrow.Author.Tests.{lt-ltb, le-ltb, ltb-true, eq-eqb, ne-eqb, eqb-true, not-true, not-false}
-use Rattle.laws.proofs.Tests.{less-or, and-left, and-right, and-three}
+use borrow.Author.Tests.{lt-ltb, le-ltb, ltb-true, eq-eqb, ne-eqb, not-true, not-false}
+use Rattle.laws.proofs.Tests.{less-or, and-three}
 use Rattle.le.specs.Le.{le}
 use Rattle.rules.specs.Table.{slotOf, handle, same}
-use Rattle.rules.proofs.Wf.{same-refl}
+use Rattle.rules.proofs.Wf.{same-refl, same-eq}
 use Rattle.storage.specs.Layout.{part, cellBase}
 use Rattle.storage.specs.Cells.{cellAt, stateOf, connectionOf}
 use Rattle.storage.specs.Finding.{least, occupied, waiting, openIn, liveIn, freeCell, named, holdsCell}
@@ -24,6 +24,7 @@ use Rattle.storage.specs.declared.State.the-variants.{Closed, Unbound, C
 use Rattle.storage.specs.declared.Connection.{Connection}
 use Rattle.storage.specs.declared.Slot.{Slot}
 use Rattle.storage.proofs.Pasted.{length-part}
+use Rattle.storage.proofs.Coding.{loaded-generation, loaded-state, loadedAt}
 
 -- ── The least that passes ──
 
@@ -72,17 +73,17 @@ module _ (n : ℕ) (w : List ℕ) (h i : ℕ) (ei : i ≡ slotOf h) where
   unfolding openIn
   open-out l = rw (le-ltb (slotOf h) n (omega arith))
 
-  pub open-stale : (s : Slot) → s ≡ record { generation = cellAt w i .generation; state = stateOf (cellAt w i) } → i < n → (s .generation ≡ h / 65536 → ⊥) → false ≡ openIn n w h
+  pub open-stale : (s : Slot) → s ≡ loadedAt w i → i < n → (s .generation ≡ h / 65536 → ⊥) → false ≡ openIn n w h
   unfolding openIn
   open-stale s es l ne =
-      let g : s .generation ≡ cellAt w (slotOf h) .generation = ap (λ (x : Slot). x .generation) es ∙ ap (λ (x : ℕ). cellAt w x .generation) ei in
+      let g : s .generation ≡ cellAt w (slotOf h) .generation = loaded-generation w ei es in
       rw (lt-ltb (slotOf h) n (omega arith), gen-slot (cellAt w (slotOf h) .generation) h, ne-eqb (cellAt w (slotOf h) .generation) (h / 65536) (λ z. ne (g ∙ z)))
 
-  pub open-by-state : (s : Slot) (r : Bool) → s ≡ record { generation = cellAt w i .generation; state = stateOf (cellAt w i) } → i < n → s .generation ≡ h / 65536 → r ≡ occupied (s .state) → r ≡ openIn n w h
+  pub open-by-state : (s : Slot) (r : Bool) → s ≡ loadedAt w i → i < n → s .generation ≡ h / 65536 → r ≡ occupied (s .state) → r ≡ openIn n w h
   unfolding openIn
   open-by-state s r es l eg er =
-      let g : cellAt w (slotOf h) .generation ≡ h / 65536 = sym (ap (λ (x : ℕ). cellAt w x .generation) ei) ∙ sym (ap (λ (x : Slot). x .generation) es) ∙ eg in
-      er ∙ ap occupied (ap (λ (x : Slot). x .state) es ∙ ap (λ (x : ℕ). stateOf (cellAt w x)) ei)
+      let g : cellAt w (slotOf h) .generation ≡ h / 65536 = sym (loaded-generation w ei es) ∙ eg in
+      er ∙ ap occupied (loaded-state w ei es)
       ∙ rw (lt-ltb (slotOf h) n (omega arith), gen-slot (cellAt w (slotOf h) .generation) h, eq-eqb (cellAt w (slotOf h) .generation) (h / 65536) g)
 
 pub not-live : (n : ℕ) (w : List ℕ) (h : ℕ) (r : Bool) → r ≡ openIn n w h → not r ≡ true → false ≡ liveIn n w h
@@ -90,10 +91,10 @@ unfolding liveIn
 not-live n w h r e t = rw (sym e ∙ not-true r t)
 
 pub live-by-state : (n : ℕ) (w : List ℕ) (h i : ℕ) (o : Bool) (s : Slot) (r : Bool) → o ≡ openIn n w h → not o ≡ false → i ≡ slotOf h
-    → s ≡ record { generation = cellAt w i .generation; state = stateOf (cellAt w i) } → r ≡ waiting (s .state) → not r ≡ liveIn n w h
+    → s ≡ loadedAt w i → r ≡ waiting (s .state) → not r ≡ liveIn n w h
 unfolding liveIn
 live-by-state n w h i o s r eo t ei es er =
-    ap not (er ∙ ap waiting (ap (λ (x : Slot). x .state) es ∙ ap (λ (x : ℕ). stateOf (cellAt w x)) ei)) ∙ rw (sym eo ∙ not-false o t)
+    ap not (er ∙ ap waiting (loaded-state w ei es)) ∙ rw (sym eo ∙ not-false o t)
 
 -- an open handle's slot is one of n
 pub open-slot : (n : ℕ) (w : List ℕ) (h : ℕ) → openIn n w h ≡ true → slotOf h < n
@@ -116,26 +117,19 @@ free-by-generation k σ r es er t = rw (sym (ap occupied es) ∙ sym er ∙ t)
 
 -- ── Names ──
 
-same-true : (a b : List ℕ) → same a b ≡ true → a ≡ b
-unfolding same
-same-true [] [] e = refl
-same-true [] (y ∷ b) e = absurd (false≢true e)
-same-true (x ∷ a) [] e = absurd (false≢true e)
-same-true (x ∷ a) (y ∷ b) e = ap₂ _∷_ (eqb-true x y (and-left _ _ e)) (same-true a b (and-right (eqb x y) _ e))
-
 pub same-is : (a b : List ℕ) (r : Bool) → (r ≡ true → a ≡ b) × (a ≡ b → r ≡ true) → r ≡ same a b
 same-is a b r f = go r (same a b) refl refl
   where
     go : (x y : Bool) → r ≡ x → same a b ≡ y → r ≡ same a b
     go true y e d = e ∙ sym (ap (same a) (sym (f .0 e)) ∙ same-refl a)
-    go false true e d = absurd (false≢true (sym e ∙ f .1 (same-true a b d)))
+    go false true e d = absurd (false≢true (sym e ∙ f .1 (same-eq a b d)))
     go false false e d = e ∙ sym d
 
 pub apart : (a b : List ℕ) → (a ≡ b → ⊥) → false ≡ same a b
 apart a b ne = go (same a b) refl
   where
     go : (x : Bool) → same a b ≡ x → false ≡ same a b
-    go true e = absurd (ne (same-true a b e))
+    go true e = absurd (ne (same-eq a b e))
     go false e = sym e
 
 pub other-length : (a b : List ℕ) → (length a ≡ length b → ⊥) → false ≡ same a b

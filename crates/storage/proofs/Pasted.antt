@@ -84,15 +84,11 @@ abbrev of : (a b c d e f g h i j k l m n o p : ℕ) → Cell
 of a b c d e f g h i j k l m n o p =
     record { generation = a; tag = b; name = c; backlog = d; head = e; pending = f; peer = g; «inbox_closed» = h; «outbox_closed» = i; byte = j; «written_total» = k; «read_total» = l; first = m; items = n; waits = o; place = p }
 
-unfoldable cellIn : List ℕ → Cell
-cellIn l = of (getD l 0 0) (getD l 1 0) (getD l 2 0) (getD l 3 0) (getD l 4 0) (getD l 5 0) (getD l 6 0) (getD l 7 0) (getD l 8 0) (getD l 9 0) (getD l 10 0) (getD l 11 0) (getD l 12 0) (getD l 13 0) (getD l 14 0) (getD l 15 0)
+abbrev cellBy : (ℕ → ℕ) → Cell
+cellBy p = of (p 0) (p 1) (p 2) (p 3) (p 4) (p 5) (p 6) (p 7) (p 8) (p 9) (p 10) (p 11) (p 12) (p 13) (p 14) (p 15)
 
-cell-part : (w : List ℕ) (i : ℕ) → cellIn (part (cellBase i) 16 w) ≡ cellAt w i
-unfolding cellIn cellAt
-cell-part w i =
-    let p : ℕ → ℕ = λ k. getD (part (cellBase i) 16 w) k 0 in
-    let q : ℕ → ℕ = λ k. getD w (cellBase i + k) 0 in
-    let e : (k : ℕ) → k < 16 → p k ≡ q k = λ k h. part-at (cellBase i) 16 w k h in
+word-by-word : (p q : ℕ → ℕ) → ((k : ℕ) → k < 16 → p k ≡ q k) → cellBy p ≡ cellBy q
+word-by-word p q e =
     ap (λ (x : ℕ). of x (p 1) (p 2) (p 3) (p 4) (p 5) (p 6) (p 7) (p 8) (p 9) (p 10) (p 11) (p 12) (p 13) (p 14) (p 15)) (e 0 (omega arith))
     ∙ ap (λ (x : ℕ). of (q 0) x (p 2) (p 3) (p 4) (p 5) (p 6) (p 7) (p 8) (p 9) (p 10) (p 11) (p 12) (p 13) (p 14) (p 15)) (e 1 (omega arith))
     ∙ ap (λ (x : ℕ). of (q 0) (q 1) x (p 3) (p 4) (p 5) (p 6) (p 7) (p 8) (p 9) (p 10) (p 11) (p 12) (p 13) (p 14) (p 15)) (e 2 (omega arith))
@@ -109,6 +105,17 @@ cell-part w i =
     ∙ ap (λ (x : ℕ). of (q 0) (q 1) (q 2) (q 3) (q 4) (q 5) (q 6) (q 7) (q 8) (q 9) (q 10) (q 11) (q 12) x (p 14) (p 15)) (e 13 (omega arith))
     ∙ ap (λ (x : ℕ). of (q 0) (q 1) (q 2) (q 3) (q 4) (q 5) (q 6) (q 7) (q 8) (q 9) (q 10) (q 11) (q 12) (q 13) x (p 15)) (e 14 (omega arith))
     ∙ ap (λ (x : ℕ). of (q 0) (q 1) (q 2) (q 3) (q 4) (q 5) (q 6) (q 7) (q 8) (q 9) (q 10) (q 11) (q 12) (q 13) (q 14) x) (e 15 (omega arith))
+
+pub same-cell : (w w′ : List ℕ) (i : ℕ) → ((k : ℕ) → k < 16 → getD w (cellBase i + k) 0 ≡ getD w′ (cellBase i + k) 0) → cellAt w i ≡ cellAt w′ i
+unfolding cellAt
+same-cell w w′ i e = word-by-word (λ k. getD w (cellBase i + k) 0) (λ k. getD w′ (cellBase i + k) 0) e
+
+unfoldable cellIn : List ℕ → Cell
+cellIn l = cellBy (λ k. getD l k 0)
+
+cell-part : (w : List ℕ) (i : ℕ) → cellIn (part (cellBase i) 16 w) ≡ cellAt w i
+unfolding cellIn cellAt
+cell-part w i = word-by-word (λ k. getD (part (cellBase i) 16 w) k 0) (λ k. getD w (cellBase i + k) 0) (part-at (cellBase i) 16 w)
 
 pub cell-apart : (w : List ℕ) (at : ℕ) (s : List ℕ) (n i : ℕ) → at + n ≤ length w → n ≤ length s → cellBase i + 16 ≤ length w → (cellBase i + 16 ≤ at) ⊎ (at + n ≤ cellBase i)
     → cellAt (paste w at s n) i ≡ cellAt w i

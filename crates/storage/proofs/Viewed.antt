@@ -1,6 +1,6 @@
 -- The table that the storage shows: its slots, a changed row, and what the searches find in it.
 use mathlib.Core.Path.{_≡_, refl, sym, ap, ap₂, _∙_}
-use mathlib.Core.Bool.{Bool, true, false, cond, not, _&&_, false≢true}
+use mathlib.Core.Bool.{Bool, true, false, cond, not, _&&_, false≢true, and-comm}
 use mathlib.Core.List.{List, [], _∷_, map}
 use Prim.Native.Nat.{ℕ, zero, suc, _≤_, _<_}
 use native.Mathlib.Nat.{not-suc-le-zero}
@@ -89,12 +89,6 @@ shown-given r g (Connected k) e = sym (not-not (eqb (k .waits) 0))
 
 -- ── Handles ──
 
-and-swap : (a b : Bool) → a && b ≡ b && a
-and-swap true true = refl
-and-swap true false = refl
-and-swap false true = refl
-and-swap false false = refl
-
 module _ (n c : ℕ) (s : Store) where
   used-at : (i : ℕ) → i < n → at (view n c s) i .inUse ≡ occupied (stateOf (cellAt (s .words) i))
   unfolding rowAt
@@ -115,7 +109,7 @@ module _ (n c : ℕ) (s : Store) where
       go : (slotOf h < n) ⊎ (n ≤ slotOf h) → openIn n (s .words) h ≡ isOpen (view n c s) h
       go (inl l) =
           rw (lt-ltb (slotOf h) n l)
-          (and-swap (eqb (handle (cellAt (s .words) (slotOf h) .generation) (slotOf h)) h) (occupied (stateOf (cellAt (s .words) (slotOf h))))
+          (and-comm (eqb (handle (cellAt (s .words) (slotOf h) .generation) (slotOf h)) h) (occupied (stateOf (cellAt (s .words) (slotOf h))))
           ∙ sym (ap₂ _&&_ (used-at (slotOf h) l) (ap (λ (g : ℕ). eqb (handle g (slotOf h)) h) (gen-at (slotOf h) l))))
       go (inr l) =
           rw (le-ltb (slotOf h) n l) (sym (ap (λ (x : model.Slot). x .inUse && eqb (handle (x .gen) (slotOf h)) h) (at-none n c s (slotOf h) l)))
@@ -152,7 +146,7 @@ shown-free r g (Bound m) = refl
 shown-free r g (Listening l) = refl
 shown-free r g (Connected k) = refl
 
-shown-holds : (r : Row) (g : ℕ) (σ : State) (m : List ℕ) → named σ && model.same (take (nameLength σ) (r .room)) m ≡ holds m (showIn r g σ)
+pub shown-holds : (r : Row) (g : ℕ) (σ : State) (m : List ℕ) → named σ && model.same (take (nameLength σ) (r .room)) m ≡ holds m (showIn r g σ)
 unfolding holds hasName showIn
 shown-holds r g Closed m = refl
 shown-holds r g Unbound m = refl

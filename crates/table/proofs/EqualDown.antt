@@ -8,7 +8,7 @@ use native.Mathlib.Omega.{arith}
 use lib.Dec.{leb, ltb, eqb}
 use lib.ListN.{length, take}
 use borrow.Author.Tests.{ltb-true, leb-true, eq-eqb, ne-eqb}
-use Rattle.laws.proofs.Tests.{and-left, and-right, and-three, and-four}
+use Rattle.laws.proofs.Tests.{and-left, and-right, and-three, and-four, both}
 use Rattle.inbox.specs.Well.{isWell}
 use Rattle.inbox.specs.View as inbox
 use Rattle.rules.specs.Table.{handle, handleAt, at}
@@ -32,7 +32,6 @@ use Rattle.table.proofs.EqualPeers.{peers}
 use Rattle.table.proofs.EqualInbox.{inboxes}
 use Rattle.table.proofs.EqualNames.{names-down}
 use Rattle.table.proofs.EqualQueues.{line-pending, waits-pending}
-use Rattle.table.proofs.EqualTests.{both}
 
 -- the ranges of a listener's numbers
 pub listener-range : (n c : ℕ) (q : Listener) → rangesWell n c (Listening q) ≡ true → (q .name ≤ 255) × (q .head < n) × (q .pending ≤ n)

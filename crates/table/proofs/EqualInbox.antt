@@ -1,53 +1,29 @@
 -- The inbox of a connected socket: the test on its numbers and its places is the test on the inbox that they show, with the ranges of the numbers.
-use mathlib.Core.Path.{_≡_, refl, sym, subst}
-use mathlib.Core.Bool.{true, not, _&&_}
-use mathlib.Core.List.{List, [], _∷_}
-use Prim.Native.Nat.{ℕ, suc, _<_}
+use mathlib.Core.Path.{_≡_, sym, subst}
+use mathlib.Core.Bool.{true, _&&_}
+use mathlib.Core.List.{List}
+use Prim.Native.Nat.{ℕ, _<_}
 use native.Mathlib.Omega.{arith}
 use lib.Dec.{leb, ltb}
 use lib.ListN.{length}
-use borrow.Author.Tests.{lt-ltb, ltb-true, le-leb, leb-true, not-true}
-use Rattle.laws.proofs.Tests.{and-left, and-right, and-three, and-four}
+use borrow.Author.Tests.{lt-ltb, ltb-true, le-leb, leb-true}
+use Rattle.laws.proofs.Tests.{and-left, and-right, and-four, both}
 use Rattle.inbox.specs.Well.{isWell, Well}
 use Rattle.inbox.specs.View as inbox
 use Rattle.inbox.specs.View.{count}
 use Rattle.inbox.specs.declared.Inbox.{Inbox}
 use Rattle.inbox.proofs.Kept.{well, is-well, InRange, in-range, well-ok, ok-well}
 use Rattle.rules.specs.Table as model
-use Rattle.rules.specs.Inbox.{isNil}
-use Rattle.rules.specs.WellFormed.{rising, inboxWell}
-use Rattle.rules.proofs.InboxOk.{InboxOk, Rising}
+use Rattle.rules.specs.WellFormed.{inboxWell}
+use Rattle.rules.proofs.InboxOk.{InboxOk}
+use Rattle.rules.proofs.YesNo.{inbox-is, is-inbox}
 use Rattle.storage.specs.Layout.{placesBase, ringBase, tokensBase}
 use Rattle.storage.specs.Rows.{Store, rowAt, Roomy}
 use Rattle.storage.specs.View.{view}
 use Rattle.storage.proofs.Pasted.{length-part}
 use Rattle.storage.proofs.Strides.{row-before}
 use Rattle.table.specs.Formed.{inboxRange}
-use Rattle.table.proofs.EqualTests.{both, same-test}
-
--- ── The model's test and its propositions ──
-
-rising-is : (a b : ℕ) (gs : List model.Group) → rising a b gs ≡ true → Rising a b gs
-unfolding rising
-rising-is a b [] e = tt
-rising-is a b (g ∷ gs) e =
-    let l = and-four (not (isNil (g .items))) (leb a (g .place)) (ltb (g .place) b) _ e in
-    (leb-true a (g .place) (l .1), ltb-true (g .place) b (l .2), not-true _ (l .0), rising-is (suc (g .place)) b gs (l .3))
-
-is-rising : (a b : ℕ) (gs : List model.Group) → Rising a b gs → rising a b gs ≡ true
-unfolding rising
-is-rising a b [] r = refl
-is-rising a b (g ∷ gs) r = rw (r .2, le-leb a (g .place) (r .0), lt-ltb (g .place) b (r .1)) (is-rising (suc (g .place)) b gs (r .3))
-
-ok-of : (t : model.Table) (i : model.Inbox) → inboxWell t i ≡ true → InboxOk (t .capacity) i
-unfolding inboxWell
-ok-of t i e =
-    let l = and-three (leb (length (i .bytes)) (t .capacity)) (rising 0 (length (i .bytes)) (i .groups)) _ e in
-    record { fits = leb-true _ _ (l .0); rising = rising-is 0 _ _ (l .1); few = leb-true _ _ (l .2) }
-
-of-ok : (t : model.Table) (i : model.Inbox) → InboxOk (t .capacity) i → inboxWell t i ≡ true
-unfolding inboxWell
-of-ok t i o = rw (le-leb _ _ (o .fits), is-rising 0 _ _ (o .rising), le-leb _ _ (o .few))
+use Rattle.table.proofs.EqualTests.{same-test}
 
 -- ── The numbers alone ──
 
@@ -74,12 +50,12 @@ tests t ring places tokens q lr lp lt = same-test (isWell (t .capacity) places q
     down e =
         let w = well (t .capacity) places q e in
         both (inboxRange (t .capacity) q) (inboxWell t shown) (of-range (t .capacity) q (in-range w))
-        (of-ok t shown (subst (λ (c : ℕ). InboxOk c shown) lr (well-ok ring places tokens q lp lt (subst (λ (c : ℕ). Well c places q) (sym lr) w))))
+        (is-inbox t shown (subst (λ (c : ℕ). InboxOk c shown) lr (well-ok ring places tokens q lp lt (subst (λ (c : ℕ). Well c places q) (sym lr) w))))
 
     up : inboxRange (t .capacity) q && inboxWell t shown ≡ true → isWell (t .capacity) places q ≡ true
     up e =
         let r = range-of (t .capacity) q (and-left (inboxRange (t .capacity) q) (inboxWell t shown) e) in
-        let o = ok-of t shown (and-right (inboxRange (t .capacity) q) (inboxWell t shown) e) in
+        let o = inbox-is t shown (and-right (inboxRange (t .capacity) q) (inboxWell t shown) e) in
         is-well (t .capacity) places q
         (subst (λ (c : ℕ). Well c places q) lr
         (ok-well ring places tokens q lp lt (subst (λ (c : ℕ). InRange c q) (sym lr) r) (subst (λ (c : ℕ). InboxOk c shown) (sym lr) o)))

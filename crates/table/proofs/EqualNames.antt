@@ -1,7 +1,7 @@
 -- Names: each only against those of the slots before it, or each against all.
 use mathlib.Core.Path.{_≡_, refl, sym, ap, _∙_}
 use mathlib.Core.Logic.{_⊎_, inl, inr}
-use mathlib.Core.Bool.{Bool, true, false, _&&_}
+use mathlib.Core.Bool.{Bool, true, false}
 use mathlib.Core.List.{List}
 use Prim.Native.Nat.{ℕ, zero, suc, _≤_, _<_}
 use native.Mathlib.Nat.{not-suc-le-zero}
@@ -10,25 +10,23 @@ use lib.Dec.{leb, eqb}
 use lib.ListN.{length, take}
 use lib.Seq.{length-take-le}
 use borrow.Author.Tests.{le-leb, leb-true, eq-eqb, eqb-true}
-use Rattle.laws.proofs.Tests.{and-left, and-right, and-three, less-or}
+use Rattle.laws.proofs.Tests.{and-left, and-right, and-three, less-or, both}
 use Rattle.rules.specs.Table as model
-use Rattle.rules.specs.Table.{at, same, hasName, holds}
+use Rattle.rules.specs.Table.{at, same, holds}
 use Rattle.rules.specs.WellFormed.{implies, alone, namedWell}
-use Rattle.rules.proofs.Frame.{some-inj}
-use Rattle.rules.proofs.Wf.{nameOf, same-refl, has-name}
-use Rattle.rules.proofs.YesNo.{every-at, at-every}
+use Rattle.rules.proofs.Wf.{same-refl, same-eq}
+use Rattle.rules.proofs.YesNo.{every-at, at-every, make-implies, use-implies}
 use Rattle.storage.specs.Layout.{part, nameBase}
 use Rattle.storage.specs.Cells.{cellAt, stateOf}
-use Rattle.storage.specs.Rows.{Store, Row, rowAt, Roomy}
-use Rattle.storage.specs.View.{showIn, view}
+use Rattle.storage.specs.Rows.{Store, rowAt, Roomy}
+use Rattle.storage.specs.View.{view}
 use Rattle.storage.specs.Finding.{least, named, nameLength, holdsCell}
 use Rattle.storage.specs.declared.State.{State}
-use Rattle.storage.specs.declared.State.the-variants.{Closed, Unbound, Bound, Listening, Connected}
 use Rattle.storage.proofs.Finds.{least-none}
 use Rattle.storage.proofs.Pasted.{length-part}
-use Rattle.storage.proofs.Viewed.{seen, size-view}
+use Rattle.storage.proofs.Viewed.{seen, size-view, shown-holds}
 use Rattle.table.specs.OnePass.{nameChecks}
-use Rattle.table.proofs.EqualTests.{both, unless, not-both, implied, follows}
+use Rattle.table.proofs.EqualTests.{unless, not-both}
 
 -- ── Tests ──
 
@@ -42,19 +40,7 @@ least-before (suc n) p j e h = go (p zero) refl j h (λ j. least-before n (λ k.
     go false z zero h f = z
     go false z (suc j) h f = let k : suc (least n (λ k. p (suc k))) ≡ suc n = rw z at e in f j (omega arith) (omega arith)
 
-same-is : (a b : List ℕ) → same a b ≡ true → a ≡ b
-unfolding hasName nameOf
-same-is a b e = some-inj (has-name b (model.State.Bound a) e)
-
 -- ── The names of a storage ──
-
-shown-holds : (r : Row) (g : ℕ) (σ : State) (m : List ℕ) → named σ && same (take (nameLength σ) (r .room)) m ≡ holds m (showIn r g σ)
-unfolding holds hasName showIn
-shown-holds r g Closed m = refl
-shown-holds r g Unbound m = refl
-shown-holds r g (Bound z) m = refl
-shown-holds r g (Listening l) m = refl
-shown-holds r g (Connected k) m = refl
 
 module _ (n c : ℕ) (s : Store) where
   abbrev roomOf : ℕ → List ℕ
@@ -95,7 +81,7 @@ module _ (n c : ℕ) (s : Store) where
   unfolding holdsCell
   held-is j m e =
       let σ : State = stateOf (cellAt (s .words) j) in
-      (and-left (named σ) (same (nameAt j) m) e, same-is (nameAt j) m (and-right (named σ) (same (nameAt j) m) e))
+      (and-left (named σ) (same (nameAt j) m) e, same-eq (nameAt j) m (and-right (named σ) (same (nameAt j) m) e))
 
   is-held : (i : ℕ) → named (stateOf (cellAt (s .words) i)) ≡ true → heldAt i (nameAt i) ≡ true
   unfolding holdsCell
@@ -107,13 +93,13 @@ module _ (n c : ℕ) (s : Store) where
   alone-of i m f =
       at-every (length (view n c s .slots)) (λ j. implies (holds m (at (view n c s) j)) (eqb j i)) λ j h.
       let hj : j < n = omega (arith, size-view n c s) in
-      implied (holds m (at (view n c s) j)) (eqb j i) (λ e. eq-eqb j i (f j hj (held j m hj ∙ e)))
+      make-implies (holds m (at (view n c s) j)) (eqb j i) (λ e. eq-eqb j i (f j hj (held j m hj ∙ e)))
 
   of-alone : (i : ℕ) (m : List ℕ) → alone (view n c s) i m ≡ true → (j : ℕ) → j < n → heldAt j m ≡ true → j ≡ i
   unfolding alone
   of-alone i m a j hj e =
       eqb-true j i
-      (follows (holds m (at (view n c s) j)) (eqb j i)
+      (use-implies (holds m (at (view n c s) j)) (eqb j i)
       (every-at (length (view n c s .slots)) (λ j. implies (holds m (at (view n c s) j)) (eqb j i)) j a (omega (arith, size-view n c s)))
       (sym (held j m hj) ∙ e))
 

@@ -1,24 +1,21 @@
 -- Queues: where each entry is of a server that says so, and each server stands where it says, each pending server is in one queue, once.
 use mathlib.Core.Path.{_≡_, refl, sym, ap, ap₂, _∙_, subst}
 use mathlib.Core.Logic.{_≢_, _⊎_, inl, inr}
-use mathlib.Core.Bool.{Bool, true, false, cond, not, _&&_, false≢true}
+use mathlib.Core.Bool.{Bool, true, false, not, _&&_, false≢true}
 use mathlib.Core.List.{List, [], _∷_, List·Memᴰ, List·Memᴰ·not-nil}
 use Prim.Native.Nat.{ℕ, suc, _+_, _-_, _≤_, _<_}
 use native.Mathlib.Omega.{arith}
 use lib.Dec.{leb, ltb, eqb}
 use lib.ListN.{length, getD}
-use borrow.Author.Tests.{lt-ltb, ltb-true, le-leb, lt-leb, leb-true, eq-eqb, ne-eqb, eqb-true}
-use Rattle.laws.proofs.Tests.{and-left, and-right, and-three, less-or}
+use borrow.Author.Tests.{lt-ltb, ltb-true, leb-true, eq-eqb, ne-eqb, eqb-true}
+use Rattle.laws.proofs.Tests.{and-left, and-right, and-three, less-or, both}
 use Rattle.ring.specs.Ring.{placeOf, queued}
-use Rattle.ring.proofs.Queued.{queued-length, queued-at}
-use Rattle.ring.proofs.Copying.{place-is}
 use Rattle.rules.specs.Table as model
 use Rattle.rules.specs.Table.{slotOf, handle, handleAt, at, vacant, isOpen}
 use Rattle.rules.specs.Ending as ending
 use Rattle.rules.specs.WellFormed.{each, isConnected, isPending, count, queuedIn, pendingWell}
 use Rattle.rules.proofs.Queues.{Once}
 use Rattle.rules.proofs.Counting.{once-count, one-slot}
-use Rattle.storage.specs.Layout.{queueBase}
 use Rattle.storage.specs.Cells.{cellAt, stateOf}
 use Rattle.storage.specs.Rows.{Store, rowAt, Roomy}
 use Rattle.storage.specs.View.{showIn, view}
@@ -27,12 +24,10 @@ use Rattle.storage.specs.declared.State.{State}
 use Rattle.storage.specs.declared.State.the-variants.{Closed, Unbound, Bound, Listening, Connected}
 use Rattle.storage.specs.declared.Listener.{Listener}
 use Rattle.storage.specs.declared.Connection.{Connection}
+use Rattle.storage.proofs.Coding.{connected-inj}
 use Rattle.storage.proofs.Viewed.{seen, size-view, at-none, gen-at, open-view}
-use Rattle.storage.proofs.Pasted.{length-part}
-use Rattle.storage.proofs.Strides.{row-before}
 use Rattle.table.specs.Formed.{queueIn, ahead, standsAt, tiedState}
-use Rattle.table.proofs.Links.{mem-index, index-mem, ahead-place, Entry, Entries}
-use Rattle.table.proofs.EqualTests.{both}
+use Rattle.table.proofs.Links.{mem-index, index-mem, ahead-place, Entry, Entries, place-ahead, queue-length, queue-at}
 
 -- ── Lists ──
 
@@ -49,32 +44,12 @@ once-of (x ∷ q) f = (
   once-of q (λ a b ha hb e. let z : suc a ≡ suc b = f (suc a) (suc b) (omega arith) (omega arith) e in omega arith),
 )
 
--- ── Places in a ring of n ──
-
-place-ahead : (n a x : ℕ) → a < n → x < n → placeOf n (a + ahead n a x) ≡ x
-unfolding ahead
-place-ahead n a x ha hx = go (less-or x a)
-  where
-    go : (x < a) ⊎ (a ≤ x) → placeOf n (a + cond (leb a x) (x - a) (x + n - a)) ≡ x
-    go (inl h) = rw (lt-leb a x h) (let z = place-is n (a + (x + n - a)) (placeOf n (a + (x + n - a))) refl .high (omega arith) in omega arith)
-    go (inr h) = rw (le-leb a x h) (let z = place-is n (a + (x - a)) (placeOf n (a + (x - a))) refl .low (omega arith) in omega arith)
-
 -- ── Where a server stands ──
-
-connected-is : {a b : Connection} → Connected a ≡ Connected b → a ≡ b
-connected-is {a} {b} e = ap (of a) e
-  where
-    of : Connection → State → Connection
-    of d Closed = d
-    of d Unbound = d
-    of d (Bound m) = d
-    of d (Listening q) = d
-    of d (Connected k) = k
 
 -- one server, two entries: the same listener, and the same place
 same-server : (n : ℕ) (w : List ℕ) (l l′ x x′ h : ℕ) → Entry n w l x h → Entry n w l′ x′ h → (l ≡ l′) × (x ≡ x′)
 same-server n w l l′ x x′ h e e′ =
-    let k : e .server ≡ e′ .server = connected-is (sym (e .is-server) ∙ e′ .is-server) in
+    let k : e .server ≡ e′ .server = connected-inj (sym (e .is-server) ∙ e′ .is-server) in
     let a : e .server .waits ≡ e′ .server .waits = ap (λ (y : Connection). y .waits) k in
     let b = e .waits-there in
     let d = e′ .waits-there in
@@ -98,9 +73,6 @@ stands n x h queue (Listening q) e =
 stands n x h queue (Connected k) e = absurd (false≢true e)
 
 module _ (n c : ℕ) (s : Store) (f : Roomy n c s) where
-  queue-long : (l : ℕ) → l < n → length (queueIn n (s .words) l) ≡ n
-  queue-long l h = let z = f .words in let y = row-before n l n h in length-part (queueBase n l) n (s .words) (omega arith)
-
   -- an entry is of a pending server
   entry-pending : (l x h : ℕ) → Entry n (s .words) l x h → isPending (view n c s) h ≡ true
   unfolding isPending isConnected model.stateOf openIn showIn
@@ -119,12 +91,10 @@ module _ (n c : ℕ) (s : Store) (f : Roomy n c s) where
     line = queued (queueIn n (s .words) l) (q .head) (q .pending)
 
     line-long : length line ≡ q .pending
-    line-long = let z = queue-long l hl in queued-length (queueIn n (s .words) l) (q .head) (omega arith) (q .pending) (omega arith)
+    line-long = queue-length n c s f l q hl hh hp
 
     line-at : (k : ℕ) → k < q .pending → getD line k 0 ≡ getD (queueIn n (s .words) l) (placeOf n (q .head + k)) 0
-    line-at k hk =
-        let e = queue-long l hl in
-        queued-at (queueIn n (s .words) l) (q .head) (omega arith) (q .pending) k (placeOf n (q .head + k)) hk (omega arith) (rw e (place-is n (q .head + k) (placeOf n (q .head + k)) refl))
+    line-at k hk = queue-at n c s f l q k hl hh hp hk
 
     line-entry : (k : ℕ) → k < q .pending → Entry n (s .words) l (placeOf n (q .head + k)) (getD line k 0)
     line-entry k hk = subst (λ (h : ℕ). Entry n (s .words) l (placeOf n (q .head + k)) h) (sym (line-at k hk)) (en .each k hk)

@@ -6,7 +6,7 @@ use native.Mathlib.Omega.{arith}
 use lib.Dec.{leb, eqb}
 use lib.ListN.{length, take}
 use borrow.Author.Tests.{leb-true}
-use Rattle.laws.proofs.Tests.{and-left, and-right, and-three}
+use Rattle.laws.proofs.Tests.{and-left, and-right, and-three, both}
 use Rattle.inbox.specs.Well.{isWell}
 use Rattle.rules.specs.Table as model
 use Rattle.rules.specs.Table.{handle, handleAt, at}
@@ -27,7 +27,6 @@ use Rattle.table.proofs.EqualPeers.{peers}
 use Rattle.table.proofs.EqualInbox.{inboxes}
 use Rattle.table.proofs.EqualNames.{names-up}
 use Rattle.table.proofs.EqualDown.{listener-range}
-use Rattle.table.proofs.EqualTests.{both}
 
 module _ (n c : ℕ) (s : Store) (f : Roomy n c s) (all : every n (slotFormed n c (s .words)) ≡ true) (well : wellFormed (view n c s) ≡ true) where
   own : (i : ℕ) → i < n → (fieldsWell (cellAt (s .words) i) ≡ true) × (rangesWell n c (stateOf (cellAt (s .words) i)) ≡ true) × (tiedState n (s .words) i (stateOf (cellAt (s .words) i)) ≡ true)

@@ -28,6 +28,7 @@ use Rattle.storage.specs.declared.State.{State}
 use Rattle.storage.specs.declared.State.the-variants.{Closed, Unbound, Bound, Listening, Connected}
 use Rattle.storage.specs.declared.Listener.{Listener}
 use Rattle.storage.specs.declared.Connection.{Connection}
+use Rattle.storage.proofs.Coding.{connected-inj}
 use Rattle.storage.proofs.Viewed.{seen, size-view}
 use Rattle.storage.proofs.Pasted.{length-part}
 use Rattle.storage.proofs.Strides.{row-before}
@@ -59,6 +60,14 @@ ahead-place n a k ha hk = go (less-or (a + k) n)
     go : (a + k < n) ⊎ (n ≤ a + k) → cond (leb a (placeOf n (a + k))) (placeOf n (a + k) - a) (placeOf n (a + k) + n - a) ≡ k
     go (inl h) = let e = p .low h in rw (le-leb a (placeOf n (a + k)) (omega arith)) (omega arith)
     go (inr h) = let e = p .high h in rw (lt-leb a (placeOf n (a + k)) (omega arith)) (omega arith)
+
+pub place-ahead : (n a x : ℕ) → a < n → x < n → placeOf n (a + ahead n a x) ≡ x
+unfolding ahead
+place-ahead n a x ha hx = go (less-or x a)
+  where
+    go : (x < a) ⊎ (a ≤ x) → placeOf n (a + cond (leb a x) (x - a) (x + n - a)) ≡ x
+    go (inl h) = rw (lt-leb a x h) (let z = place-is n (a + (x + n - a)) (placeOf n (a + (x + n - a))) refl .high (omega arith) in omega arith)
+    go (inr h) = rw (le-leb a x h) (let z = place-is n (a + (x - a)) (placeOf n (a + (x - a))) refl .low (omega arith) in omega arith)
 
 -- ── An entry, and the server that it is of ──
 
@@ -102,16 +111,6 @@ of-entries : (n : ℕ) (w : List ℕ) (l : ℕ) (q : Listener) → Entries n w l
 unfolding tiedState
 of-entries n w l q e = at-every (q .pending) _ (λ k h. of-entry n w l _ _ (e .each k h))
 
-connected-inj : {a b : Connection} → Connected a ≡ Connected b → a ≡ b
-connected-inj {a} {b} e = ap (of a) e
-  where
-    of : Connection → State → Connection
-    of d Closed = d
-    of d Unbound = d
-    of d (Bound m) = d
-    of d (Listening q) = d
-    of d (Connected k) = k
-
 stands-true : (n : ℕ) (w : List ℕ) (i : ℕ) (k : Connection) (l x j h : ℕ) (q : Listener) → k .waits ≡ l + 1 → k .place ≡ x → l < n → x < n → ahead n (q .head) x ≡ j → j < q .pending
     → stateOf (cellAt w l) ≡ Listening q → getD (queueIn n w l) x 0 ≡ h → handle (cellAt w i .generation) i ≡ h → tiedState n w i (Connected k) ≡ true
 unfolding tiedState standsAt
@@ -119,15 +118,15 @@ stands-true n w i k l x j h q ew ex hl hx ea hj el eh em =
     let back : k .waits - 1 ≡ l = omega arith in
     rw (ne-eqb (k .waits) 0 (λ z. omega arith), le-leb (k .waits) n (omega arith), back, el, ex, lt-ltb x n hx, ea, lt-ltb j (q .pending) hj, eh, em, eq-eqb h h refl)
 
--- ── Each server stands where it says ──
+-- ── The queue of a listener ──
 
-module _ (n c : ℕ) (s : Store) (f : Roomy n c s) (g : Formed (view n c s)) where
-  -- an open socket's slot is one of n
-  pub open-within : (h : ℕ) → isOpen (view n c s) h ≡ true → slotOf h < n
-  open-within h o = let z = in-range (view n c s) (slotOf h) (open-used (view n c s) h o) in omega (arith, size-view n c s)
-
+module _ (n c : ℕ) (s : Store) (f : Roomy n c s) where
   pub queue-long : (l : ℕ) → l < n → length (queueIn n (s .words) l) ≡ n
   queue-long l h = let z = f .words in let y = row-before n l n h in length-part (queueBase n l) n (s .words) (omega arith)
+
+  -- a queue is as long as the listener says
+  pub queue-length : (l : ℕ) (q : Listener) → l < n → q .head < n → q .pending ≤ n → length (queued (queueIn n (s .words) l) (q .head) (q .pending)) ≡ q .pending
+  queue-length l q hl hh hp = let z = queue-long l hl in queued-length (queueIn n (s .words) l) (q .head) (omega arith) (q .pending) (omega arith)
 
   -- the entries of a queue, by their places
   pub queue-at : (l : ℕ) (q : Listener) (k : ℕ) → l < n → q .head < n → q .pending ≤ n → k < q .pending
@@ -135,6 +134,13 @@ module _ (n c : ℕ) (s : Store) (f : Roomy n c s) (g : Formed (view n c s)) whe
   queue-at l q k hl hh hp hk =
       let e = queue-long l hl in
       queued-at (queueIn n (s .words) l) (q .head) (omega arith) (q .pending) k (placeOf n (q .head + k)) hk (omega arith) (rw e (place-is n (q .head + k) (placeOf n (q .head + k)) refl))
+
+-- ── Each server stands where it says ──
+
+module _ (n c : ℕ) (s : Store) (f : Roomy n c s) (g : Formed (view n c s)) where
+  -- an open socket's slot is one of n
+  pub open-within : (h : ℕ) → isOpen (view n c s) h ≡ true → slotOf h < n
+  open-within h o = let z = in-range (view n c s) (slotOf h) (open-used (view n c s) h o) in omega (arith, size-view n c s)
 
   -- a slot whose table state has a queue is a listener
   listens : (l : ℕ) (x : ℕ) → l < n → List·Memᴰ x (ending.queued (at (view n c s) l .state)) → (q : Listener) × (stateOf (cellAt (s .words) l) ≡ Listening q) × List·Memᴰ x (queued (queueIn n (s .words) l) (q .head) (q .pending))
@@ -166,10 +172,10 @@ module _ (n c : ℕ) (s : Store) (f : Roomy n c s) (g : Formed (view n c s)) whe
         let r = ok l hl q (lis .1) in
         let ix = mem-index (lis .2) in
         let j : ℕ = ix .0 in
-        let lq = queued-length (queueIn n (s .words) l) (q .head) (let z = queue-long l hl in let y = r .0 in omega arith) (q .pending) (let z = queue-long l hl in let y = r .1 in omega arith) in
+        let lq = queue-length n c s f l q hl (r .0) (r .1) in
         let hj : j < q .pending = let z = ix .1 in omega arith in
         let x : ℕ = placeOf n (q .head + j) in
-        let is-h : getD (queueIn n (s .words) l) x 0 ≡ h = sym (queue-at l q j hl (r .0) (r .1) hj) ∙ ix .2 in
+        let is-h : getD (queueIn n (s .words) l) x 0 ≡ h = sym (queue-at n c s f l q j hl (r .0) (r .1) hj) ∙ ix .2 in
         let en : Entry n (s .words) l x h = subst (λ (y : ℕ). Entry n (s .words) l x y) is-h (r .2 .each j hj) in
         let same : k ≡ en .server = connected-inj (sym e ∙ ap (λ (y : ℕ). stateOf (cellAt (s .words) y)) (sym (o .0)) ∙ en .is-server) in
         let ew : k .waits ≡ l + 1 = ap (λ (y : Connection). y .waits) same ∙ en .waits-there in

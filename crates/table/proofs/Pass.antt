@@ -1,7 +1,7 @@
 -- What the pass over the header and the slots leaves at each return.
 use mathlib.Core.Path.{_≡_, refl, sym, ap, _∙_}
 use mathlib.Core.Logic.{_≢_}
-use mathlib.Core.Bool.{Bool, true, false, not, _&&_}
+use mathlib.Core.Bool.{Bool, true, false, not, _&&_, and-comm, and-true}
 use mathlib.Core.List.{List, []}
 use Prim.Native.Nat.{ℕ, _+_, _-_, _≤_, _<_}
 use lib.Dec.{leb, ltb, eqb}
@@ -50,21 +50,11 @@ six-zeros w =
     rw (or-eqb (bitOr (bitOr (bitOr (bitOr (getD w 2 0) (getD w 3 0)) (getD w 4 0)) (getD w 5 0)) (getD w 6 0)) (getD w 7 0), or-eqb (bitOr (bitOr (bitOr (getD w 2 0) (getD w 3 0)) (getD w 4 0)) (getD w 5 0)) (getD w 6 0), or-eqb (bitOr (bitOr (getD w 2 0) (getD w 3 0)) (getD w 4 0)) (getD w 5 0), or-eqb (bitOr (getD w 2 0) (getD w 3 0)) (getD w 4 0), or-eqb (getD w 2 0) (getD w 3 0))
     (go (eqb (getD w 2 0) 0) (eqb (getD w 3 0) 0) (eqb (getD w 4 0) 0) (eqb (getD w 5 0) 0) (eqb (getD w 6 0) 0) (eqb (getD w 7 0) 0))
   where
-    turn : (a b : Bool) → a && b ≡ b && a
-    turn true true = refl
-    turn true false = refl
-    turn false true = refl
-    turn false false = refl
-
-    on : (a : Bool) → a ≡ a && true
-    on true = refl
-    on false = refl
-
     go : (a b c d e f : Bool) → a && b && c && d && e && f ≡ f && (e && (d && (c && (b && (a && true)))))
     go a b c d e f =
-        turn (a && b && c && d && e) f ∙ ap (λ (x : Bool). f && x)
-        (turn (a && b && c && d) e ∙ ap (λ (x : Bool). e && x)
-        (turn (a && b && c) d ∙ ap (λ (x : Bool). d && x) (turn (a && b) c ∙ ap (λ (x : Bool). c && x) (turn a b ∙ ap (λ (x : Bool). b && x) (on a)))))
+        and-comm (a && b && c && d && e) f ∙ ap (λ (x : Bool). f && x)
+        (and-comm (a && b && c && d) e ∙ ap (λ (x : Bool). e && x)
+        (and-comm (a && b && c) d ∙ ap (λ (x : Bool). d && x) (and-comm (a && b) c ∙ ap (λ (x : Bool). c && x) (and-comm a b ∙ ap (λ (x : Bool). b && x) (sym (and-true a))))))
 
 -- ── Names ──
 

@@ -19,6 +19,7 @@ use Rattle.storage.specs.declared.Listener.{Listener}
 use Rattle.storage.specs.declared.Connection.{Connection}
 use Rattle.storage.specs.declared.State.{State}
 use Rattle.storage.specs.declared.State.the-variants.{Closed, Unbound, Bound, Listening, Connected}
+use Rattle.storage.proofs.Coding.{loaded-state, loadedAt}
 use Rattle.storage.proofs.Pasted.{part-at}
 use Rattle.table.specs.Formed.{queueIn, waitsAt, serverWell, ahead, standsAt, tiedState}
 use Rattle.table.proofs.Conjunctions.{nope, AllBefore, all-done, one-fails}
@@ -70,13 +71,13 @@ module _ (n : ℕ) (w : List ℕ) (i x h : ℕ) (o : Bool) (eo : o ≡ openIn n 
       let z : openIn n w h ≡ true = rw (a .0, a .1) (waits-open (i + 1) x (stateOf (cellAt w (slotOf h))) (a .2)) in
       false≢true (sym (not-true o t) ∙ eo ∙ z))
 
-  pub server-says : (j : ℕ) (s : Slot) (r : Bool) → not o ≡ false → j ≡ slotOf h → s ≡ record { generation = cellAt w j .generation; state = stateOf (cellAt w j) } → r ≡ waitsAt (i + 1) x (s .state)
+  pub server-says : (j : ℕ) (s : Slot) (r : Bool) → not o ≡ false → j ≡ slotOf h → s ≡ loadedAt w j → r ≡ waitsAt (i + 1) x (s .state)
       → r ≡ serverWell n w i x h
   unfolding serverWell openIn
   server-says j s r t ej es er =
       let e : openIn n w h ≡ true = sym eo ∙ not-false o t in
       let a = and-three (ltb (slotOf h) n) (eqb (handle (cellAt w (slotOf h) .generation) (slotOf h)) h) (occupied (stateOf (cellAt w (slotOf h)))) e in
-      er ∙ ap (waitsAt (i + 1) x) (ap (λ (y : Slot). y .state) es ∙ ap (λ (y : ℕ). stateOf (cellAt w y)) ej) ∙ rw (a .0, a .1)
+      er ∙ ap (waitsAt (i + 1) x) (loaded-state w ej es) ∙ rw (a .0, a .1)
 
 -- ── All entries of a listener ──
 

@@ -1,5 +1,4 @@
 use Rattle.inbox.proofs.Parts.{place-mod}
-use borrow.Author.Needs.{needs}
 use Rattle.inbox.proofs.place.Statement.{statement}
 use Rattle.inbox.proofs.place.Tie as tie
 
