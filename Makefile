@@ -14,9 +14,8 @@
 # is to be had.
 
 SEED ?= 1
-# How many crates or must-fail edits rt takes at a time: more than there are cores, so that no core waits for the longest of a batch.
-# One takes up to 1.2 GB, so there is one for each 2 GB of memory, at most 10.
-export RT_JOBS ?= $(shell awk '/^MemTotal/ { n = int($$2 / 2000000) } END { print (n < 1 ? 1 : (n > 10 ? 10 : n)) }' /proc/meminfo 2>/dev/null || echo 2)
+# how many crates or must-fail edits rt takes at a time
+export RT_JOBS ?= $(shell scripts/jobs)
 ARCHIVE = target/native/libeidrovang.a
 
 .PHONY: run tour test native archive kernel c-test oracle bench edits fmt kit
