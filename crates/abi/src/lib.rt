@@ -2,6 +2,8 @@
 // the crate `address`.
 // Names and order are the Rust's. What it takes as a struct in memory is here read from and
 // written to lent bytes; docs/DECISIONS.md lists what is left out.
+#![tactic(auto)]
+
 ghost use Rattle.std.specs.Prelude.{◌≡◌};
 ghost use Rattle.abi.specs.Header.{message_of, iovec_count_of, control_len_of};
 ghost use Rattle.abi.specs.Size.{align_of, len_of, space_of, rights_space_of, rights_of, rights_count_of};
@@ -14,14 +16,14 @@ pub const AF_UNIX: u16 = 1;
 pub const SOCK_STREAM: i32 = 1;
 
 // Tells `shutdown` which direction to close.
-#[derive(Drop)]
+#[derive(Clone, Copy)]
 pub enum ShutdownHow {
     Read,
     Write,
     Both,
 }
 
-#[derive(Drop)]
+#[derive(Clone, Copy)]
 pub enum How {
     Is(ShutdownHow),
     Refused(Errno),
@@ -57,7 +59,7 @@ pub const MAX_IOVEC: u64 = 16;
 pub const MAX_CONTROL_BYTES: u64 = 80;
 
 // What the checks below ask of a message header's 56 bytes.
-#[derive(Drop)]
+#[derive(Clone, Copy)]
 pub struct MsgHdr {
     pub msg_name: u64,
     pub msg_namelen: u32,
@@ -65,7 +67,7 @@ pub struct MsgHdr {
     pub msg_controllen: u64,
 }
 
-#[derive(Drop)]
+#[derive(Clone, Copy)]
 pub enum Message {
     Is(MsgHdr),
     Refused(Errno),
@@ -114,20 +116,20 @@ impl MsgHdr {
     }
 }
 
-#[derive(Drop)]
+#[derive(Clone, Copy)]
 pub struct CmsgHdr {
     pub cmsg_len: u64,
     pub cmsg_level: i32,
     pub cmsg_type: i32,
 }
 
-#[derive(Drop)]
+#[derive(Clone, Copy)]
 pub enum Made {
     Is(CmsgHdr),
     Refused(Errno),
 }
 
-#[derive(Drop)]
+#[derive(Clone, Copy)]
 pub enum Count {
     Of(u64),
     None,

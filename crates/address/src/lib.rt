@@ -1,5 +1,7 @@
 // Addresses, the `SockAddrUn` of kernel/abi/src/socket.rs. What the Rust takes as a struct in memory
 // is here read from and written to lent bytes.
+#![tactic(auto)]
+
 ghost use Rattle.std.specs.Prelude.{◌≡◌, ◌≤◌, length, replicate};
 ghost use Rattle.address.specs.Address.{address_of, path_in, refusal_in, length_of, Wrote, ZeroFrom};
 
@@ -9,7 +11,7 @@ pub const SUN_PATH_MAX: usize = 108;
 
 // The POSIX `sockaddr_un` layout in lent bytes: the family in bytes 0 and 1, then 108 bytes of
 // path, which a zero ends.
-#[derive(Drop)]
+#[derive(Clone, Copy)]
 pub struct SockAddrUn {}
 
 impl SockAddrUn {

@@ -1,6 +1,8 @@
 // What `make bench` times by itself, in a form that needs nothing of its caller: an inbox's push and
 // take, and the check of a table. The five numbers of an inbox stand in a lent list. Sizes that do not
 // fit are refused with 18, an inbox that is not well with 19.
+#![tactic(auto)]
+
 ghost use Rattle.std.specs.Prelude.{◌≡◌, ◌≤◌, length};
 ghost use Rattle.std.proofs.lemmas.List.Edits.{sets};
 ghost use Rattle.bench_exports.specs.Checking.{check_no};
@@ -10,7 +12,7 @@ use inbox::{AttachedItems, Inbox};
 use words::{Errno, Verdict};
 
 #[repr(C)]
-#[derive(Drop)]
+#[derive(Clone, Copy)]
 pub struct BenchAnswer {
     pub refusal: u32,
     pub flags: u32,

@@ -1,1 +1,2 @@
 // The demands over real storage: definitions and theorems only.
+#![tactic(auto)]

@@ -3,6 +3,8 @@
 //
 // Slot 0 listens as "/a", with the server of slot 2 pending; slot 1 is that server's client; slot 3
 // is bound to "/b"; slot 4 is connected to a socket that was in slot 5 and has closed.
+#![tactic(auto)]
+
 use inbox::Inbox;
 use libc::STDOUT_FILENO;
 use storage::{Connection, Listener, Slot, State};

@@ -1,4 +1,6 @@
 // read and recvmsg, on a table that has been admitted.
+#![tactic(auto)]
+
 ghost use Rattle.std.specs.Prelude.{◌≡◌, true, [], ◌<◌, length};
 ghost use Rattle.inbox.specs.Promise.{policy_of};
 ghost use Rattle.rules.specs.Outcome.{Call};

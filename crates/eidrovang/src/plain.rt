@@ -15,7 +15,7 @@ use words::{Answer, Errno, Verdict};
 
 // 01's number, and the value where it is 0.
 #[repr(C)]
-#[derive(Drop)]
+#[derive(Clone, Copy)]
 pub struct EidNumber {
     pub refusal: u32,
     pub value: u64,
@@ -23,7 +23,7 @@ pub struct EidNumber {
 
 // Where the path stands in an address.
 #[repr(C)]
-#[derive(Drop)]
+#[derive(Clone, Copy)]
 pub struct EidPath {
     pub refusal: u32,
     pub start: usize,
@@ -32,7 +32,7 @@ pub struct EidPath {
 
 // A control header's three fields.
 #[repr(C)]
-#[derive(Drop)]
+#[derive(Clone, Copy)]
 pub struct EidHeader {
     pub refusal: u32,
     pub cmsg_level: i32,

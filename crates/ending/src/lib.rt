@@ -1,4 +1,6 @@
 // close, on a table that has been admitted.
+#![tactic(auto)]
+
 ghost use Rattle.std.specs.Prelude.{◌≡◌, true, ◌+◌, ◌*◌, ◌≤◌, ◌<◌, length};
 ghost use Rattle.rules.specs.Outcome.{Call};
 ghost use Rattle.storage.specs.Rows.{lent};
@@ -16,7 +18,7 @@ use storage::{Connection, Listener, Slot, State, handles, inboxes, queues};
 use words::{Errno, Handle};
 
 // How far the wake list and the release list are filled.
-#[derive(Drop)]
+#[derive(Clone, Copy)]
 struct Closing {
     wakes: usize,
     releases: usize,

@@ -1,6 +1,8 @@
 // One socket's bytes and attached items: the Rust's `Inbox`, over rings that are lent to it. The
 // bytes lie in a ring of their own, whose length is the capacity; each item has an entry in two
 // rings of 256: its token, and the stream offset of the byte that carries it.
+#![tactic(auto)]
+
 ghost use Rattle.std.specs.Prelude.{◌≡◌, ◌+◌, ◌-◌, ◌<◌, ◌≤◌, min, true, false, length, drop};
 ghost use Rattle.ring.specs.Ring.{place_of, queued};
 ghost use Rattle.words.specs.Numbers.{refusal_of};
@@ -14,7 +16,7 @@ use words::{Errno, Verdict};
 pub const MAX_PENDING_ATTACHED: usize = 256;
 
 // What a take does with the items attached to its first byte.
-#[derive(Drop)]
+#[derive(Clone, Copy)]
 pub enum AttachedItems {
     Take,
     Drop,
@@ -44,7 +46,7 @@ impl AttachedItems {
 
 // Where an inbox stands in its rings: the first queued byte, the bytes ever written and ever read
 // (both go round at 2^64), the first queued item, and how many items there are.
-#[derive(Drop)]
+#[derive(Clone, Copy)]
 pub struct Inbox {
     pub head: usize,
     pub written_total: u64,
@@ -53,13 +55,13 @@ pub struct Inbox {
     pub items: usize,
 }
 
-#[derive(Drop)]
+#[derive(Clone, Copy)]
 pub struct Pushed {
     pub moved: usize,
     pub inbox: Inbox,
 }
 
-#[derive(Drop)]
+#[derive(Clone, Copy)]
 pub struct Taken {
     pub moved: usize,
     pub items: usize,
@@ -68,7 +70,7 @@ pub struct Taken {
     pub inbox: Inbox,
 }
 
-#[derive(Drop)]
+#[derive(Clone, Copy)]
 pub struct Discarded {
     pub released: usize,
     pub inbox: Inbox,

@@ -1,5 +1,7 @@
 // Numbers in lent bytes, the least byte first, at a place that the caller has tested. Each width is
 // made of two halves, so that all are proved by the laws of Widths.antt.
+#![tactic(auto)]
+
 ghost use Rattle.std.specs.Prelude.{◌≡◌, ◌+◌, ◌<◌, ◌≤◌, length};
 ghost use Rattle.std.proofs.lemmas.List.Edits.{sets};
 ghost use Rattle.std.specs.Int.{w32};

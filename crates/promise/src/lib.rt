@@ -1,4 +1,6 @@
 // What a table call answers. The promise that every call makes stands in specs/.
+#![tactic(auto)]
+
 ghost use Rattle.std.specs.Prelude.{◌≡◌};
 ghost use Rattle.words.specs.Numbers.{number_of};
 ghost use Rattle.promise.specs.Answers.{refused_with, accepted_with};
@@ -8,7 +10,7 @@ use words::Errno;
 // 01's number (0: accepted), recvmsg's flags, the value, and how many entries are filled of the
 // item list, the wake list and the release list.
 #[repr(C)]
-#[derive(Drop)]
+#[derive(Clone, Copy)]
 pub struct Answer {
     pub refusal: u32,
     pub flags: u32,

@@ -1,5 +1,7 @@
 // The questions without a table: UTF-8, addresses, sizes, headers, control bytes. The answer is the
 // refusal, its numbers, and after `bytes` all that was lent for it, which held a5 before.
+#![tactic(auto)]
+
 use abi::{CmsgHdr, Count, How, Made, Message, MsgHdr, ShutdownHow};
 use address::SockAddrUn;
 use wording::{text, write};

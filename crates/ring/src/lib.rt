@@ -1,6 +1,8 @@
 // A queue of numbers that goes round in its own lent slice: the slice is the ring. What is queued
 // starts at `head`; elements move in at most two straight runs, to the ring's end and from its
 // start. The laws are stated once, over lists of numbers, for all widths.
+#![tactic(auto)]
+
 ghost use Rattle.std.specs.Prelude.{◌≡◌, ◌+◌, ◌<◌, ◌≤◌, length, drop, replicate};
 ghost use Rattle.std.proofs.Math.Seq.{paste};
 ghost use Rattle.ring.specs.Ring.{place_of, queued, whole};

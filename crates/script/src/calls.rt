@@ -34,7 +34,7 @@ pub const READINESS: usize = 11;
 // ── Arguments ──
 
 // The words of a call as numbers, in every way in which one is taken.
-#[derive(Drop)]
+#[derive(Clone, Copy)]
 pub struct Args {
     h: u64,
     one: i32,

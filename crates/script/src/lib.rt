@@ -1,6 +1,8 @@
 // A script of calls with their answers, in the format that oracle/README.md describes. Each call is
 // made through the public entries, its answer is written as text, and that is compared with what
 // stands in the script. The first difference ends the run, and so does a line that cannot be read.
+#![tactic(auto)]
+
 ghost use Rattle.std.specs.Prelude.{◌<◌, length};
 
 pub mod answers;
@@ -13,7 +15,7 @@ use wording::text;
 
 // Where a run stands: the number of its line, what agreed so far, the table's N (0: none yet) and C,
 // and how many sockets the caller has.
-#[derive(Drop)]
+#[derive(Clone, Copy)]
 pub struct State {
     line: u64,
     calls: u64,

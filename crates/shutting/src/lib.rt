@@ -1,4 +1,6 @@
 // shutdown, on a table that has been admitted.
+#![tactic(auto)]
+
 ghost use Rattle.std.specs.Prelude.{◌≡◌, true, ◌||◌, ◌+◌, ◌*◌, ◌≤◌, ◌<◌, length};
 ghost use Rattle.inbox.specs.View.{count};
 ghost use Rattle.rules.specs.Outcome.{Call};

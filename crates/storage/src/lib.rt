@@ -1,4 +1,6 @@
 // The storage that the host lends, and a slot of it as a value. docs/STORAGE.md has the picture.
+#![tactic(auto)]
+
 pub mod handles;
 pub mod inboxes;
 pub mod names;
@@ -13,7 +15,7 @@ use inbox::Inbox;
 use words::Handle;
 
 // The least lengths of what a host lends.
-#[derive(Drop)]
+#[derive(Clone, Copy)]
 pub struct Sizes {
     pub words: usize,
     pub bytes: usize,
@@ -23,7 +25,7 @@ pub struct Sizes {
 }
 
 // A slot's sixteen words.
-#[derive(Drop)]
+#[derive(Clone, Copy)]
 pub struct Cell {
     pub generation: u64,
     pub tag: u64,
@@ -45,7 +47,7 @@ pub struct Cell {
 
 // A listening socket: the length of its name, its backlog, and where its pending servers stand in
 // its ring of handles.
-#[derive(Drop)]
+#[derive(Clone, Copy)]
 pub struct Listener {
     pub name: usize,
     pub backlog: u64,
@@ -55,7 +57,7 @@ pub struct Listener {
 
 // A connected socket. A pending server waits in the queue of slot `waits - 1`, at `place` of that
 // ring; for a socket that has been given out both are 0.
-#[derive(Drop)]
+#[derive(Clone, Copy)]
 pub struct Connection {
     pub peer: Handle,
     pub inbox: Inbox,
@@ -66,7 +68,7 @@ pub struct Connection {
 }
 
 // A slot's state. A bound socket has the length of its name.
-#[derive(Drop)]
+#[derive(Clone, Copy)]
 pub enum State {
     Closed,
     Unbound,
@@ -75,7 +77,7 @@ pub enum State {
     Connected(Connection),
 }
 
-#[derive(Drop)]
+#[derive(Clone, Copy)]
 pub struct Slot {
     pub generation: u64,
     pub state: State,
@@ -137,7 +139,7 @@ pub fn store_inbox(
 }
 
 // Four words of a slot.
-#[derive(Drop)]
+#[derive(Clone, Copy)]
 pub struct Four {
     pub a: u64,
     pub b: u64,

@@ -1,5 +1,7 @@
 // kernel/syscall/src/socket.rs: the SCM_RIGHTS parser and encoder, and the checks of plain
 // arguments. Names are the Rust's; docs/DECISIONS.md lists what is left out.
+#![tactic(auto)]
+
 ghost use Rattle.std.specs.Prelude.{◌≡◌, ◌+◌, ◌*◌, ◌≤◌, ◌/◌, ◌++◌, length, drop};
 ghost use Rattle.std.proofs.lemmas.List.Edits.{sets};
 ghost use Rattle.std.specs.Int.{w32};

@@ -1,4 +1,6 @@
 // The table in the lent storage: is it well-formed, and may a call go on?
+#![tactic(auto)]
+
 pub mod connected;
 pub mod fields;
 pub mod make;

@@ -1,4 +1,6 @@
 // A short tour of what stands so far: an address is written, read back, and refused.
+#![tactic(auto)]
+
 use address::SockAddrUn;
 use libc::STDOUT_FILENO;
 

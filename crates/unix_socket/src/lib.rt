@@ -1,5 +1,7 @@
 // The twelve calls, over kernel/unix_socket/src/lib.rs, and the making of a table. Each may be called
 // with anything: what is lent is asked first, and then the call goes on in the crates below.
+#![tactic(auto)]
+
 ghost use Rattle.std.specs.Prelude.{◌≡◌, [], length};
 ghost use Rattle.rules.specs.Outcome.{Call};
 ghost use Rattle.storage.specs.Rows.{lent};
@@ -14,7 +16,7 @@ use words::{Errno, Handle, Verdict};
 
 // 01's number, and the least sizes of what is lent where it is 0.
 #[repr(C)]
-#[derive(Drop)]
+#[derive(Clone, Copy)]
 pub struct Least {
     pub refusal: u32,
     pub words: u64,

@@ -1,4 +1,6 @@
 // RFC 3629: is this byte string UTF-8?
+#![tactic(auto)]
+
 ghost use Rattle.std.specs.Prelude.{◌≡◌, ◌+◌, ◌<◌, ◌≤◌, length};
 ghost use Rattle.utf8.specs.Syntax.{is_utf8};
 ghost use Rattle.utf8.specs.Steps.{Step, Tails};

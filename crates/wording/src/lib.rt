@@ -1,3 +1,5 @@
 // The lines of a script as text: their words, numbers, handles and bytes read, and answers written.
+#![tactic(auto)]
+
 pub mod text;
 pub mod write;

@@ -3,7 +3,7 @@
 ghost use Rattle.std.specs.Prelude.{◌≤◌};
 
 // A number, where the text was one.
-#[derive(Drop)]
+#[derive(Clone, Copy)]
 pub struct Read {
     pub good: bool,
     pub value: u64,

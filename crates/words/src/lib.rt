@@ -1,10 +1,12 @@
 // The words of document 01: the numbers that a caller may get back, and the three kinds of number
 // that are never passed for each other.
+#![tactic(auto)]
+
 ghost use Rattle.std.specs.Prelude.{◌≡◌};
 ghost use Rattle.words.specs.Numbers.{number_of, refusal_of, answer_no, answer_value};
 
 // "Numbers a caller may get back", in 01's order.
-#[derive(Drop)]
+#[derive(Clone, Copy)]
 pub enum Errno {
     EBADF,
     EINVAL,
@@ -28,29 +30,29 @@ pub enum Errno {
 }
 
 // A question that has no other answer than "accepted" or a refusal.
-#[derive(Drop)]
+#[derive(Clone, Copy)]
 pub enum Verdict {
     Accepted,
     Refused(Errno),
 }
 
 // A question that asks for a number.
-#[derive(Drop)]
+#[derive(Clone, Copy)]
 pub enum Answer {
     Is(u64),
     Refused(Errno),
 }
 
 // generation x 65,536 + slot
-#[derive(Drop)]
+#[derive(Clone, Copy)]
 pub struct Handle(pub u64);
 
 // An opaque token that a sender attaches to a byte.
-#[derive(Drop)]
+#[derive(Clone, Copy)]
 pub struct Item(pub u32);
 
 // A descriptor number, as it stands in control bytes.
-#[derive(Drop)]
+#[derive(Clone, Copy)]
 pub struct Descriptor(pub i32);
 
 impl Errno {

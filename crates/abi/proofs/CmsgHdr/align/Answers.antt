@@ -1,0 +1,9 @@
+use Rattle.abi.proofs.Sizes.{align-held, align-passed}
+use borrow.Author.Rules.{rules}
+use Rattle.abi.proofs.CmsgHdr.align.Goals as goal
+
+pub returns-then-len : goal.returns-then-len
+returns-then-len c = search align-held
+
+pub returns-else-len : goal.returns-else-len
+returns-else-len c = search align-passed

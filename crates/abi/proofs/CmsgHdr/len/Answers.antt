@@ -1,0 +1,9 @@
+use Rattle.abi.proofs.Sizes.{len-held, len-passed}
+use borrow.Author.Rules.{rules}
+use Rattle.abi.proofs.CmsgHdr.len.Goals as goal
+
+pub returns-then-data_len : goal.returns-then-data_len
+returns-then-data_len c = search len-held
+
+pub returns-else-data_len : goal.returns-else-data_len
+returns-else-data_len c = search len-passed

@@ -1,0 +1,12 @@
+use Rattle.abi.proofs.Sizes.{rights-held, rights-passed, rights-many}
+use borrow.Author.Rules.{rules}
+use Rattle.abi.proofs.CmsgHdr.scm_rights.Goals as goal
+
+pub returns-then-fd_count : goal.returns-then-fd_count
+returns-then-fd_count c = search rights-many
+
+pub returns-in_default : goal.returns-in_default
+returns-in_default c = search rights-passed
+
+pub returns : goal.returns
+returns c = search rights-held

@@ -1,0 +1,6 @@
+use Rattle.inbox.proofs.Parts.{handed-over}
+use Rattle.std.proofs.Common.{rules}
+use Rattle.inbox.proofs.Inbox.hand_over.Goals as goal
+
+pub returns : goal.returns
+returns c = search handed-over

@@ -1,0 +1,6 @@
+use Rattle.inbox.proofs.Parts.{gone-on}
+use Rattle.std.proofs.Common.{rules}
+use Rattle.inbox.proofs.Inbox.moved_on.Goals as goal
+
+pub returns : goal.returns
+returns c = search gone-on

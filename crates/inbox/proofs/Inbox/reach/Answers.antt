@@ -1,0 +1,9 @@
+use Rattle.inbox.proofs.Parts.{reach-next, reach-end}
+use Rattle.std.proofs.Common.{rules}
+use Rattle.inbox.proofs.Inbox.reach.Goals as goal
+
+pub returns-then-g-self : goal.returns-then-g-self
+returns-then-g-self c = search reach-next
+
+pub returns-else-g-self : goal.returns-else-g-self
+returns-else-g-self c = search reach-end

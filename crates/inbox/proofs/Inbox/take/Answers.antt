@@ -1,0 +1,53 @@
+use Rattle.std.proofs.Common.{length, arith, rules}
+use Rattle.inbox.proofs.Shows.{reach-le}
+use Rattle.inbox.proofs.Parts.{handed-few}
+use Rattle.inbox.proofs.Parts.{takes}
+use Rattle.inbox.proofs.Inbox.take.Goals as goal
+
+pub read_u8-requires : goal.read_u8-requires
+read_u8-requires c =
+    let a = c.args in
+    let pre = c.requires in
+    let g = c.group-g in
+    let r = c.reach in
+    let k = c.least-k in
+    let z = reach-le a.places.now a.self g.result pre.0.rising in
+    search rules
+
+pub hand_over-requires : goal.hand_over-requires
+hand_over-requires c =
+    let a = c.args in
+    let g = c.group-g in
+    let m = c.handed-m in
+    let z = handed-few a.policy g.result (length a.items-1.now) in
+    search rules
+
+pub overflow_sub-result : goal.overflow_sub-result
+overflow_sub-result c =
+    let a = c.args in
+    let g = c.group-g in
+    let m = c.handed-m in
+    let z = handed-few a.policy g.result (length a.items-1.now) in
+    omega arith
+
+pub moved_on-requires : goal.moved_on-requires
+moved_on-requires c =
+    let a = c.args in
+    let pre = c.requires in
+    let g = c.group-g in
+    let r = c.reach in
+    let k = c.least-k in
+    let z = reach-le a.places.now a.self g.result pre.0.rising in
+    search rules
+
+pub returns : goal.returns
+returns c =
+    let a = c.args in
+    let pre = c.requires in
+    let g = c.group-g in
+    let r = c.reach in
+    let k = c.least-k in
+    let m = c.handed-m in
+    let f = c.flags in
+    takes _ _ _ _ _ _ _ _ _ a.policy a.self c.moved_on.result g.result r.result k.result m.result f.result pre.0 pre.1.1 pre.1.2 pre.1.3
+    g.ensures.0 g.ensures.1 r.ensures k.ensures m.ensures c.read_u8.ensures c.hand_over.ensures f.ensures c.moved_on.ensures

@@ -1,0 +1,17 @@
+use borrow.Author.Rules.{sfits_of}
+use Rattle.syscall.proofs.Bytes.{written_all}
+use mathlib.Core.Path.{◌≡◌, refl}
+use Prim.Native.Nat.{◌-◌, ◌≤◌}
+use native.Mathlib.Omega.{arith}
+use borrow.Author.Rules.{rules}
+use lib.ListN.{length, take}
+use lib.Seq.{sets}
+use Rattle.syscall.specs.Control.{descriptor_bytes}
+use Rattle.syscall.proofs.Bytes.{write-next}
+use Rattle.syscall.proofs.write_descriptors.Given as goal
+
+abbrev pub invariant-loop-i : goal.invariant-loop-i
+invariant-loop-i l = (l.i ≤ length l.fds) × (length l.control ≡ length l.initial.control) × (l.control ≡ sets l.initial.control 16 (descriptor_bytes (take l.i l.fds)))
+
+abbrev pub decreases-loop-i : goal.decreases-loop-i
+decreases-loop-i l = length l.fds - l.i

@@ -1,0 +1,32 @@
+use mathlib.Core.Path.{◌≡◌}
+use mathlib.Core.List.{◌∷◌}
+use Prim.Native.Nat.{◌+◌, ◌-◌, ◌≤◌}
+use borrow.Author.Rules.{rules}
+use lib.ListN.{drop, replicate}
+use Rattle.utf8.specs.Syntax.{passes, octets, tail}
+use Rattle.utf8.proofs.Passing.{cut, too-low, too-high, begun, tail-low, tail-high, on, all}
+use Rattle.utf8.proofs.tails.Goals as goal
+
+pub returns-then-s-at : goal.returns-then-s-at
+returns-then-s-at c = search cut
+
+pub returns-then-second-low : goal.returns-then-second-low
+returns-then-second-low c = search too-low
+
+pub returns-then-high-second : goal.returns-then-high-second
+returns-then-high-second c = search too-high
+
+pub loop-i-init : goal.loop-i-init
+loop-i-init c = (search rules, search begun)
+
+pub returns-then-b-lt128 : goal.returns-then-b-lt128
+returns-then-b-lt128 c = search tail-low
+
+pub returns-then-b-gt191 : goal.returns-then-b-gt191
+returns-then-b-gt191 c = search tail-high
+
+pub loop-i-preserved : goal.loop-i-preserved
+loop-i-preserved c = (search rules, search on)
+
+pub returns : goal.returns
+returns c = search all
