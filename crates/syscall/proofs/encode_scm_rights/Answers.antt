@@ -10,19 +10,19 @@ pub returns-then-n-eq0 : goal.returns-then-n-eq0
 returns-then-n-eq0 c = search none
 
 pub returns-in_default : goal.returns-in_default
-returns-in_default c = header-held _ _ _ c.scm_rights_capacity.ensures (search rules) c.if-n-eq0.false (omega arith) _ _ _ _ c.scm_rights.ensures c.enum_told-1.given.1
+returns-in_default c = header-held _ _ _ c.scm_rights_capacity.ensures (search rules) c.if-n-eq0.false (omega arith) _ _ _ _ c.scm_rights.ensures c.in_default.is
 
 pub returns-in_default-scm_rights_space : goal.returns-in_default-scm_rights_space
-returns-in_default-scm_rights_space c = space-held _ _ _ c.scm_rights_capacity.ensures (search rules) c.if-n-eq0.false (omega arith) _ _ _ _ c.scm_rights_space.ensures c.enum_told-in_default-scm_rights_space-1.given.1
+returns-in_default-scm_rights_space c = space-held _ _ _ c.scm_rights_capacity.ensures (search rules) c.if-n-eq0.false (omega arith) _ _ _ _ c.scm_rights_space.ensures c.in_default-scm_rights_space.is
 
 pub write_header-requires : goal.write_header-requires
-write_header-requires c = let a = c.args in omega (arith, enough a.fds.now a.control-1.now _ c.scm_rights_capacity.ensures (search rules) c.if-n-eq0.false)
+write_header-requires c = let a = c.args in omega (arith, enough a.fds.now a.control.now _ c.scm_rights_capacity.ensures (search rules) c.if-n-eq0.false)
 
 pub write_descriptors-requires : goal.write_descriptors-requires
-write_descriptors-requires c = let a = c.args in omega (arith, enough a.fds.now a.control-1.now _ c.scm_rights_capacity.ensures (search rules) c.if-n-eq0.false)
+write_descriptors-requires c = let a = c.args in omega (arith, enough a.fds.now a.control.now _ c.scm_rights_capacity.ensures (search rules) c.if-n-eq0.false)
 
 pub returns-then-room-space : goal.returns-then-room-space
-returns-then-room-space c = to_the_end _ _ _ c.scm_rights_capacity.ensures (search rules) c.if-n-eq0.false _ _ c.scm_rights.ensures c.hdr-1.given.1 (omega arith) _ _ c.write_header.ensures c.write_descriptors.ensures _ _ c.scm_rights_space.ensures c.space-1.given.1 (search rules)
+returns-then-room-space c = to_the_end _ _ _ c.scm_rights_capacity.ensures (search rules) c.if-n-eq0.false _ _ c.scm_rights.ensures c.in-Is.is (omega arith) _ _ c.write_header.ensures c.write_descriptors.ensures _ _ c.scm_rights_space.ensures c.in-Is-scm_rights_space.is (search rules)
 
 pub returns : goal.returns
-returns c = padded _ _ _ c.scm_rights_capacity.ensures (search rules) c.if-n-eq0.false _ _ c.scm_rights.ensures c.hdr-1.given.1 (omega arith) _ _ c.write_header.ensures c.write_descriptors.ensures _ _ c.scm_rights_space.ensures c.space-1.given.1 (search rules)
+returns c = padded _ _ _ c.scm_rights_capacity.ensures (search rules) c.if-n-eq0.false _ _ c.scm_rights.ensures c.in-Is.is (omega arith) _ _ c.write_header.ensures c.write_descriptors.ensures _ _ c.scm_rights_space.ensures c.in-Is-scm_rights_space.is (search rules)

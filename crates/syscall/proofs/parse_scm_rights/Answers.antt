@@ -11,22 +11,22 @@ pub returns-then-control-lt16 : goal.returns-then-control-lt16
 returns-then-control-lt16 c = under-16 _ _ c.if-control-eq0.false (search rules)
 
 pub returns-in_default : goal.returns-in_default
-returns-in_default c = not-rights _ _ c.if-control-eq0.false (search rules) _ c.read_header-hdr.ensures _ c.scm_rights_count.ensures c.enum_told-1.given.1
+returns-in_default c = not-rights _ _ c.if-control-eq0.false (search rules) _ c.read_header-hdr.ensures _ c.scm_rights_count.ensures c.in_default.is
 
 pub returns-then-n-fds : goal.returns-then-n-fds
-returns-then-n-fds c = short-list _ _ c.if-control-eq0.false (search rules) _ c.read_header-hdr.ensures _ _ c.scm_rights_count.ensures c.n-1.given.1 (search rules)
+returns-then-n-fds c = short-list _ _ c.if-control-eq0.false (search rules) _ c.read_header-hdr.ensures _ _ c.scm_rights_count.ensures c.in-Of.is (search rules)
 
 pub slice_bounds-read_descriptors-count : goal.slice_bounds-read_descriptors-count
-slice_bounds-read_descriptors-count c = omega (arith, says _ [] c.if-control-eq0.false (search rules) _ c.read_header-hdr.ensures _ _ c.scm_rights_count.ensures c.n-1.given.1)
+slice_bounds-read_descriptors-count c = omega (arith, says _ [] c.if-control-eq0.false (search rules) _ c.read_header-hdr.ensures _ _ c.scm_rights_count.ensures c.in-Of.is)
 
-pub UNKNOWN-slice-bounds-read-descriptors-start : goal.UNKNOWN-slice-bounds-read-descriptors-start
-UNKNOWN-slice-bounds-read-descriptors-start c = omega (arith, says _ [] c.if-control-eq0.false (search rules) _ c.read_header-hdr.ensures _ _ c.scm_rights_count.ensures c.n-1.given.1)
+pub slice_bounds-read_descriptors-start : goal.slice_bounds-read_descriptors-start
+slice_bounds-read_descriptors-start c = omega (arith, says _ [] c.if-control-eq0.false (search rules) _ c.read_header-hdr.ensures _ _ c.scm_rights_count.ensures c.in-Of.is)
 
-pub UNKNOWN-slice-bounds-read-descriptors-end : goal.UNKNOWN-slice-bounds-read-descriptors-end
-UNKNOWN-slice-bounds-read-descriptors-end c = omega (arith, says _ [] c.if-control-eq0.false (search rules) _ c.read_header-hdr.ensures _ _ c.scm_rights_count.ensures c.n-1.given.1)
+pub slice_bounds-read_descriptors-end : goal.slice_bounds-read_descriptors-end
+slice_bounds-read_descriptors-end c = omega (arith, says _ [] c.if-control-eq0.false (search rules) _ c.read_header-hdr.ensures _ _ c.scm_rights_count.ensures c.in-Of.is)
 
 pub read_descriptors-requires : goal.read_descriptors-requires
-read_descriptors-requires c = fits-list _ c.args.fds.now c.if-control-eq0.false (search rules) _ c.read_header-hdr.ensures _ _ c.scm_rights_count.ensures c.n-1.given.1 (search rules)
+read_descriptors-requires c = fits-list _ c.args.fds.now c.if-control-eq0.false (search rules) _ c.read_header-hdr.ensures _ _ c.scm_rights_count.ensures c.in-Of.is (search rules)
 
 pub returns : goal.returns
-returns c = parsed _ _ c.if-control-eq0.false (search rules) _ c.read_header-hdr.ensures _ _ c.scm_rights_count.ensures c.n-1.given.1 (search rules) _ c.read_descriptors.ensures
+returns c = parsed _ _ c.if-control-eq0.false (search rules) _ c.read_header-hdr.ensures _ _ c.scm_rights_count.ensures c.in-Of.is (search rules) _ c.read_descriptors.ensures

@@ -6,19 +6,19 @@ use Rattle.inbox.proofs.Inbox.push.Goals as goal
 pub fill_u64-requires : goal.fill_u64-requires
 fill_u64-requires c =
     let a = c.args in
-    let z = may-fit (length a.ring-1.now) (count a.self) (length a.buf.now) a.self.items (length a.items.now) c.requires.1.1 (omega (arith, c.requires)) in
+    let z = may-fit (length a.ring.now) (count a.self) (length a.buf.now) a.self.items (length a.items.now) c.requires.may_push (omega (arith, c.requires)) in
     search rules
 
 pub write_u32-requires : goal.write_u32-requires
 write_u32-requires c =
     let a = c.args in
-    let z = may-fit (length a.ring-1.now) (count a.self) (length a.buf.now) a.self.items (length a.items.now) c.requires.1.1 (omega (arith, c.requires)) in
+    let z = may-fit (length a.ring.now) (count a.self) (length a.buf.now) a.self.items (length a.items.now) c.requires.may_push (omega (arith, c.requires)) in
     search rules
 
 pub overflow_add-result : goal.overflow_add-result
 overflow_add-result c =
     let a = c.args in
-    let z = may-fit (length a.ring-1.now) (count a.self) (length a.buf.now) a.self.items (length a.items.now) c.requires.1.1 (omega (arith, c.requires)) in
+    let z = may-fit (length a.ring.now) (count a.self) (length a.buf.now) a.self.items (length a.items.now) c.requires.may_push (omega (arith, c.requires)) in
     omega arith
 
 pub returns : goal.returns
@@ -29,5 +29,5 @@ returns c =
     let k = c.least-k in
     let n = c.queued in
     let w = c.wrapping_add_u64 in
-    pushes _ _ _ _ _ _ _ _ a.self k.result n.result room.result w.result pre.0 pre.1.1 pre.1.0.0 (search rules) pre.1.0.1 (search rules) pre.1.0.2 (search rules)
-    room.ensures k.ensures n.ensures c.write_u8.ensures c.fill_u64.ensures c.write_u32.ensures w.ensures
+    pushes _ _ _ _ _ _ _ _ a.self k.result n.result room.result w.result pre.well pre.may_push pre.ring_len_bound.0 (search rules) pre.ring_len_bound.1 (search rules) pre.ring_len_bound.2 (search rules)
+    room.ensures k.ensures n.ensures c.write_u8.ensures c.fill_u64.ensures c.write_u32.ensures w.ensures.value

@@ -11,7 +11,7 @@ read_u8-requires c =
     let g = c.group-g in
     let r = c.reach in
     let k = c.least-k in
-    let z = reach-le a.places.now a.self g.result pre.0.rising in
+    let z = reach-le a.places.now a.self g.result pre.well.rising in
     search rules
 
 pub hand_over-requires : goal.hand_over-requires
@@ -19,7 +19,7 @@ hand_over-requires c =
     let a = c.args in
     let g = c.group-g in
     let m = c.handed-m in
-    let z = handed-few a.policy g.result (length a.items-1.now) in
+    let z = handed-few a.policy g.result (length a.items.now) in
     search rules
 
 pub overflow_sub-result : goal.overflow_sub-result
@@ -27,7 +27,7 @@ overflow_sub-result c =
     let a = c.args in
     let g = c.group-g in
     let m = c.handed-m in
-    let z = handed-few a.policy g.result (length a.items-1.now) in
+    let z = handed-few a.policy g.result (length a.items.now) in
     omega arith
 
 pub moved_on-requires : goal.moved_on-requires
@@ -37,7 +37,7 @@ moved_on-requires c =
     let g = c.group-g in
     let r = c.reach in
     let k = c.least-k in
-    let z = reach-le a.places.now a.self g.result pre.0.rising in
+    let z = reach-le a.places.now a.self g.result pre.well.rising in
     search rules
 
 pub returns : goal.returns
@@ -49,5 +49,5 @@ returns c =
     let k = c.least-k in
     let m = c.handed-m in
     let f = c.flags in
-    takes _ _ _ _ _ _ _ _ _ a.policy a.self c.moved_on.result g.result r.result k.result m.result f.result pre.0 pre.1.1 pre.1.2 pre.1.3
+    takes _ _ _ _ _ _ _ _ _ a.policy a.self c.moved_on.result g.result r.result k.result m.result f.result pre.well pre.ring_len_bound.1 pre.ring_len_bound.2 pre.ring_len_bound.3
     g.ensures.0 g.ensures.1 r.ensures k.ensures m.ensures c.read_u8.ensures c.hand_over.ensures f.ensures c.moved_on.ensures
