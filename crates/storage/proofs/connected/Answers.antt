@@ -1,0 +1,6 @@
+use Rattle.storage.proofs.Coding.{connected-is}
+use borrow.Author.Rules.{rules}
+use Rattle.storage.proofs.connected.Goals as goal
+
+pub returns : goal.returns
+returns c = search connected-is

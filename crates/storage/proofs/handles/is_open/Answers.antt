@@ -1,0 +1,13 @@
+use Rattle.storage.proofs.Finds.{open-out, open-stale, open-by-state}
+use native.Mathlib.Omega.{arith}
+use borrow.Author.Rules.{rules}
+use Rattle.storage.proofs.handles.is_open.Goals as goal
+
+pub returns-then-n-i : goal.returns-then-n-i
+returns-then-n-i c = search open-out
+
+pub returns-then-slot-h : goal.returns-then-slot-h
+returns-then-slot-h c = let a = c.args in open-stale a.n a.words.now a.h.0 c.slot_of-i.result c.slot_of-i.ensures c.load-slot.result c.load-slot.ensures (omega arith) c.if-slot-h.true
+
+pub returns : goal.returns
+returns c = search open-by-state

@@ -1,0 +1,6 @@
+use Rattle.storage.proofs.Finds.{waiting-is}
+use borrow.Author.Rules.{rules}
+use Rattle.storage.proofs.handles.is_waiting.Goals as goal
+
+pub returns-in-Connected : goal.returns-in-Connected
+returns-in-Connected c = search waiting-is

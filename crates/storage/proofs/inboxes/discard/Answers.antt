@@ -1,0 +1,6 @@
+use Rattle.storage.proofs.Lending.{discards-at}
+use borrow.Author.Rules.{rules}
+use Rattle.storage.proofs.inboxes.discard.Goals as goal
+
+pub returns : goal.returns
+returns c = search discards-at

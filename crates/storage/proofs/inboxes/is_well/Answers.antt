@@ -1,0 +1,6 @@
+use Rattle.storage.proofs.Lending.{well-at}
+use borrow.Author.Rules.{rules}
+use Rattle.storage.proofs.inboxes.is_well.Goals as goal
+
+pub returns : goal.returns
+returns c = search well-at
