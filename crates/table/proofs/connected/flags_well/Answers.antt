@@ -1,0 +1,6 @@
+use Rattle.table.proofs.WordByWord.{flags-test}
+use borrow.Author.Rules.{rules}
+use Rattle.table.proofs.connected.flags_well.Goals as goal
+
+pub returns : goal.returns
+returns c = flags-test _ _ _ c.load_four-four.ensures

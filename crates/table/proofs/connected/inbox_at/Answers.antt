@@ -1,0 +1,6 @@
+use Rattle.table.proofs.WordByWord.{inbox-words}
+use borrow.Author.Rules.{rules}
+use Rattle.table.proofs.connected.inbox_at.Goals as goal
+
+pub returns : goal.returns
+returns c = inbox-words _ _ _ c.load_four-four.ensures

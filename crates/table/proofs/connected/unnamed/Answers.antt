@@ -1,0 +1,6 @@
+use Rattle.table.proofs.WordByWord.{unnamed-test}
+use borrow.Author.Rules.{rules}
+use Rattle.table.proofs.connected.unnamed.Goals as goal
+
+pub returns : goal.returns
+returns c = unnamed-test _ _ _ c.load_four-four.ensures

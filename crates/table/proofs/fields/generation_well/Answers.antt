@@ -1,0 +1,12 @@
+use Rattle.table.proofs.OwnNumbers.{too-old, has-lived, never-lived}
+use borrow.Author.Rules.{rules}
+use Rattle.table.proofs.fields.generation_well.Goals as goal
+
+pub returns-then-cell-gt4294967295 : goal.returns-then-cell-gt4294967295
+returns-then-cell-gt4294967295 c = search too-old
+
+pub returns-then-cell-ge1 : goal.returns-then-cell-ge1
+returns-then-cell-ge1 c = search has-lived
+
+pub returns : goal.returns
+returns c = search never-lived

@@ -1,0 +1,5 @@
+use Rattle.table.proofs.OwnNumbers.{name-none}
+use Rattle.table.proofs.fields.no_name.Goals as goal
+
+pub returns : goal.returns
+returns c = search name-none

@@ -1,0 +1,12 @@
+use Rattle.table.proofs.Pass.{name-empty, name-over, name-first}
+use borrow.Author.Rules.{rules}
+use Rattle.table.proofs.name_checks.Goals as goal
+
+pub returns-then-m-lt1 : goal.returns-then-m-lt1
+returns-then-m-lt1 c = search name-empty
+
+pub returns-then-m-gt255 : goal.returns-then-m-gt255
+returns-then-m-gt255 c = search name-over
+
+pub returns : goal.returns
+returns c = search name-first

@@ -1,0 +1,12 @@
+use Rattle.table.proofs.Servers.{ahead-low, ahead-out, ahead-high}
+use borrow.Author.Rules.{rules}
+use Rattle.table.proofs.pending.places_ahead.Goals as goal
+
+pub returns-then-a-b : goal.returns-then-a-b
+returns-then-a-b c = search ahead-low
+
+pub returns-then-b-n : goal.returns-then-b-n
+returns-then-b-n c = search ahead-out
+
+pub returns : goal.returns
+returns c = search ahead-high

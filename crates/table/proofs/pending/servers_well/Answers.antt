@@ -1,0 +1,35 @@
+use mathlib.Core.Path.{sym, ◌∙◌}
+use Prim.Native.Nat.{◌-◌, ◌≤◌}
+use native.Mathlib.Omega.{arith}
+use borrow.Author.Tests.{not-true, not-false}
+use Rattle.table.proofs.Conjunctions.{AllBefore, all-yet, all_here}
+use Rattle.table.proofs.Servers.{entry_well, entry-is, entry-fails, all-entries}
+use borrow.Author.Rules.{rules}
+use Rattle.table.proofs.pending.servers_well.Goals as goal
+
+pub loop-k-init : goal.loop-k-init
+loop-k-init c = (omega arith, all-yet _)
+
+pub returns-then-not-server_well : goal.returns-then-not-server_well
+returns-then-not-server_well c =
+    let a = c.args in
+    let l = c.loop-k in
+    let x = c.place-x in
+    let h = c.entry-h in
+    let s = c.server_well in
+    entry-fails a.n a.words.now a.i a.listener l.k (omega arith) (sym (entry-is a.n a.words.now a.i a.listener l.k x.result h.result.0 s.result x.ensures.0 x.ensures.1 h.ensures s.ensures) ∙ c.if-not-server_well.true)
+
+pub loop-k-preserved : goal.loop-k-preserved
+loop-k-preserved c =
+    let a = c.args in
+    let l = c.loop-k in
+    let x = c.place-x in
+    let h = c.entry-h in
+    let s = c.server_well in
+    (omega arith, all_here (entry_well a.n a.words.now a.i a.listener) l.k l.invariant.1 (sym (entry-is a.n a.words.now a.i a.listener l.k x.result h.result.0 s.result x.ensures.0 x.ensures.1 h.ensures s.ensures) ∙ c.if-not-server_well.false))
+
+pub returns : goal.returns
+returns c =
+    let a = c.args in
+    let l = c.loop-k in
+    all-entries a.n a.words.now a.i a.listener l.k (omega arith) l.invariant.1

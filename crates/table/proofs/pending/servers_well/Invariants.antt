@@ -1,0 +1,15 @@
+use mathlib.Core.Path.{sym, ◌∙◌}
+use Prim.Native.Nat.{◌-◌, ◌≤◌}
+use native.Mathlib.Omega.{arith}
+use borrow.Author.Tests.{not-true, not-false}
+use Rattle.table.proofs.Conjunctions.{AllBefore, all-yet, all_here}
+use Rattle.table.proofs.Servers.{entry_well, entry-is, entry-fails, all-entries}
+use borrow.Author.Rules.{rules}
+use Rattle.table.proofs.pending.servers_well.Given as goal
+
+-- The entries before k are well.
+abbrev pub invariant-loop-k : goal.invariant-loop-k
+invariant-loop-k l = (l.k ≤ l.listener.pending) × AllBefore (entry_well l.n l.words l.i l.listener) l.k
+
+abbrev pub decreases-loop-k : goal.decreases-loop-k
+decreases-loop-k l = l.listener.pending - l.k

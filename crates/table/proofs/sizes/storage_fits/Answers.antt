@@ -1,0 +1,12 @@
+use Rattle.table.proofs.Admitting.{short-words, short-bytes, by-tokens}
+use borrow.Author.Rules.{rules}
+use Rattle.table.proofs.sizes.storage_fits.Goals as goal
+
+pub returns-then-words-least : goal.returns-then-words-least
+returns-then-words-least c = search short-words
+
+pub returns-then-bytes-least : goal.returns-then-bytes-least
+returns-then-bytes-least c = search short-bytes
+
+pub returns : goal.returns
+returns c = search by-tokens

@@ -1,0 +1,20 @@
+use Prim.Native.Nat.{◌-◌}
+use borrow.Author.Rules.{rules}
+use Rattle.table.specs.OnePass.{ClosedRun}
+use Rattle.table.proofs.Runs.{closed-here}
+use Rattle.table.proofs.skip_closed.Goals as goal
+
+pub loop-i-init : goal.loop-i-init
+loop-i-init c = c.skip_pairs-i.ensures
+
+pub returns-then-words-b-ne0 : goal.returns-then-words-b-ne0
+returns-then-words-b-ne0 c = c.loop-i.invariant
+
+pub returns-then-words-b-gt4294967295 : goal.returns-then-words-b-gt4294967295
+returns-then-words-b-gt4294967295 c = c.loop-i.invariant
+
+pub loop-i-preserved : goal.loop-i-preserved
+loop-i-preserved c = closed-here _ _ _ _ c.loop-i-test.true c.loop-i.invariant c.if-words-b-ne0.false c.if-words-b-gt4294967295.false
+
+pub returns : goal.returns
+returns c = c.loop-i.invariant

@@ -1,0 +1,12 @@
+use Prim.Native.Nat.{◌-◌}
+use borrow.Author.Rules.{rules}
+use Rattle.table.specs.OnePass.{ClosedRun}
+use Rattle.table.proofs.Runs.{none-closed, two-closed}
+use Rattle.table.proofs.skip_pairs.Given as goal
+
+-- The slots from the first on up to i are closed.
+abbrev pub invariant-loop-i : goal.invariant-loop-i
+invariant-loop-i l = ClosedRun l.words l.n l.from l.i
+
+abbrev pub decreases-loop-i : goal.decreases-loop-i
+decreases-loop-i l = l.n - l.i

@@ -1,0 +1,57 @@
+use mathlib.Core.Path.{sym, ◌∙◌}
+use Prim.Native.Nat.{◌-◌, ◌≤◌}
+use native.Mathlib.Omega.{arith}
+use borrow.Author.Rules.{rules}
+use borrow.Author.Tests.{not-false}
+use Rattle.table.specs.OnePass.{slot_checks}
+use Rattle.table.proofs.Conjunctions.{first-of-two, AllBefore, all-yet, all_here}
+use Rattle.table.proofs.Pass.{slot-fails, slots-pass}
+use Rattle.table.proofs.Runs.{closed-pass, run-passes}
+use mathlib.Core.Path.{ap}
+use mathlib.Core.Bool.{not}
+use Rattle.table.proofs.well_formed.Goals as goal
+
+pub returns-then-not-header_well : goal.returns-then-not-header_well
+returns-then-not-header_well c = search first-of-two
+
+pub loop-i-init : goal.loop-i-init
+loop-i-init c =
+    let r = c.skip_closed-i.ensures in
+    (r.inside, closed-pass _ _ _ _ 0 _ (all-yet _) r)
+
+pub slot_checks-requires : goal.slot_checks-requires
+slot_checks-requires c = record { i_lt_n = search rules; i_value = c.skip_well-i.ensures.stops _ c.if-i-n.true }
+
+pub returns-then-not-slot_checks : goal.returns-then-not-slot_checks
+returns-then-not-slot_checks c =
+    let h = c.header_well in
+    let s = c.slot_checks in
+    slot-fails _ _ _ _ _ _ h.ensures (ap not c.if-not-header_well.false) _ c.if-i-n.true s.ensures (ap not c.if-not-slot_checks.true)
+
+pub loop-i-smaller-then-i-n : goal.loop-i-smaller-then-i-n
+loop-i-smaller-then-i-n c =
+    let r = c.skip_well-i.ensures in
+    omega (arith, r.run.onward, c.skip_closed-i-then-i-n.ensures.onward)
+
+pub loop-i-preserved-then-i-n : goal.loop-i-preserved-then-i-n
+loop-i-preserved-then-i-n c =
+    let l = c.loop-i in
+    let r = c.skip_well-i.ensures in
+    let s = c.slot_checks in
+    let z = c.skip_closed-i-then-i-n.ensures in
+    (z.inside, closed-pass _ _ _ _ _ _ (all_here _ _ (run-passes _ _ _ _ _ _ l.invariant.1 r.run) (sym s.ensures ∙ c.if-not-slot_checks.false)) z)
+
+pub loop-i-smaller : goal.loop-i-smaller
+loop-i-smaller c = let r = c.skip_well-i.ensures in omega (arith, r.run.onward)
+
+pub loop-i-preserved : goal.loop-i-preserved
+loop-i-preserved c =
+    let l = c.loop-i in
+    let r = c.skip_well-i.ensures in
+    (r.run.inside, run-passes _ _ _ _ _ _ l.invariant.1 r.run)
+
+pub returns : goal.returns
+returns c =
+    let h = c.header_well in
+    let l = c.loop-i in
+    slots-pass _ _ _ _ _ _ h.ensures (ap not c.if-not-header_well.false) (omega arith) l.invariant.1

@@ -1,0 +1,17 @@
+use mathlib.Core.Path.{sym, ◌∙◌}
+use Prim.Native.Nat.{◌-◌, ◌≤◌}
+use native.Mathlib.Omega.{arith}
+use borrow.Author.Rules.{rules}
+use borrow.Author.Tests.{not-false}
+use Rattle.table.specs.OnePass.{slot_checks}
+use Rattle.table.proofs.Conjunctions.{first-of-two, AllBefore, all-yet, all_here}
+use Rattle.table.proofs.Pass.{slot-fails, slots-pass}
+use Rattle.table.proofs.Runs.{closed-pass, run-passes}
+use Rattle.table.proofs.well_formed.Given as goal
+
+-- The slots before i are well.
+abbrev pub invariant-loop-i : goal.invariant-loop-i
+invariant-loop-i l = (l.i ≤ l.n) × AllBefore (slot_checks l.n l.c l.words l.bytes) l.i
+
+abbrev pub decreases-loop-i : goal.decreases-loop-i
+decreases-loop-i l = l.n - l.i
