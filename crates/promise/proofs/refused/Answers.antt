@@ -1,0 +1,6 @@
+use borrow.Author.Rules.{rules}
+use Rattle.promise.proofs.Answering.{refused-is}
+use Rattle.promise.proofs.refused.Goals as goal
+
+pub returns : goal.returns
+returns c = search refused-is
