@@ -33,7 +33,7 @@ use Rattle.promise.specs.Answers.{refused_with, accepted_with, released_with}
 use Rattle.promise.specs.Promise.{Lists, lists, Done}
 use Rattle.promise.specs.declared.Answer.{Answer}
 use Rattle.promise.proofs.Known.{Known, known, refused-done, listener-at}
-use Rattle.promise.proofs.Called.{Unconnected, not-connected}
+use Rattle.promise.proofs.Called.{Unconnected}
 use Rattle.promise.proofs.Held.{inbox-in}
 use Rattle.promise.proofs.Live.{Live, live, not-closed, state-seen, stale-run}
 use Rattle.ending.specs.declared.Closing.{Closing}
@@ -79,7 +79,7 @@ module _ (n c : ℕ) (w : List ℕ) (x i : ℕ) (sv : Serves n c w x) (ei : i �
   state-at = loaded-state w ei es
 
   pub serves-always : {A : Type 0} → Unconnected sl.state → A
-  serves-always d = absurd (not-connected sl.state d sv.server (state-at ∙ sv.is-server))
+  serves-always d = absurd (d sv.server (state-at ∙ sv.is-server))
 
   module _ (k : Connection) (ek : sl.state ≡ Connected k) where
     is-k : connection_in (state_of (cell_at w (slot_of x))) ≡ k

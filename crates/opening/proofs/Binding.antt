@@ -8,7 +8,6 @@ use native.Mathlib.Omega.{arith}
 use lib.ListN.{length, take, drop, set}
 use lib.Seq.{sets, sets-eq, paste, take-paste, take_all, set-set}
 use borrow.Author.Tests.{le-leb}
-use types.Run.{OneOf, miss}
 use denote.Enum.Declared
 use Rattle.storage.specs.contracts.State
 use Rattle.rules.specs.Table as model
@@ -106,9 +105,6 @@ unfolding show_in cell_of state_of
 shown-bound g m r h = ap (λ (x : List ℕ). record { gen = g; in_use = true; given = true; state = model.State.Bound x }) (take-written r.room m h)
 
 -- ── A socket that is not unbound ──
-
-pub not-unbound : (σ : State) → OneOf (0 ∷ 2 ∷ 3 ∷ 4 ∷ []) (Declared.tag_of Rattle.storage.specs.contracts.State.the_type σ) → σ ≢ Unbound
-not-unbound σ h e = miss (0 ∷ 2 ∷ 3 ∷ 4 ∷ []) 1 tt (subst (λ (x : State). OneOf (0 ∷ 2 ∷ 3 ∷ 4 ∷ []) (Declared.tag_of Rattle.storage.specs.contracts.State.the_type x)) e h)
 
 bind-other : (t : Table) (h : ℕ) (m : List ℕ) (r : Row) (g : ℕ) (σ : State) → σ ≢ Unbound → σ ≢ Closed → do_bind t h m (show_in r g σ).state ≡ refuse t 2
 unfolding do_bind show_in

@@ -5,7 +5,6 @@ use mathlib.Core.Bool.{Bool, false, not}
 use mathlib.Core.List.{List, [], ◌∷◌}
 use Prim.Native.Nat.{ℕ, ◌<◌}
 use native.Mathlib.Omega.{arith}
-use types.Run.{OneOf, miss}
 use denote.Enum.Declared
 use Rattle.rules.specs.Table as model
 use Rattle.rules.specs.Table.{Table, at, put, slot_of, become}
@@ -62,16 +61,9 @@ become-is t h i x σ ei ex =
 
 -- ── States told apart ──
 
--- the states that `let State::Listening(..) = .. else` leaves
-pub not-listening : (σ : State) → OneOf (0 ∷ 1 ∷ 2 ∷ 4 ∷ []) (Declared.tag_of Rattle.storage.specs.contracts.State.the_type σ) → (q : Listener) → σ ≢ Listening q
-not-listening σ h q e = miss (0 ∷ 1 ∷ 2 ∷ 4 ∷ []) 3 tt (subst (λ (x : State). OneOf (0 ∷ 1 ∷ 2 ∷ 4 ∷ []) (Declared.tag_of Rattle.storage.specs.contracts.State.the_type x)) e h)
-
--- and those that `let State::Connected(..) = .. else` leaves
+-- the states that `let State::Connected(..) = .. else` leaves
 abbrev pub Unconnected : State → Type 0
-Unconnected σ = OneOf (0 ∷ 1 ∷ 2 ∷ 3 ∷ []) (Declared.tag_of Rattle.storage.specs.contracts.State.the_type σ)
-
-pub not-connected : (σ : State) → Unconnected σ → (k : Connection) → σ ≢ Connected k
-not-connected σ h k e = miss (0 ∷ 1 ∷ 2 ∷ 3 ∷ []) 4 tt (subst Unconnected e h)
+Unconnected σ = (k : Connection) → σ ≢ Connected k
 
 pub unconnected : (P : model.State → Type 0) → P model.State.Unbound → ((m : List ℕ) → P (model.State.Bound m)) → ((m : List ℕ) (b : ℕ) (q : List ℕ) → P (model.State.Listening m b q))
     → (r : Row) (g : ℕ) (σ : State) → Unconnected σ → P (show_in r g σ).state
@@ -80,4 +72,4 @@ unconnected P u d l r g Closed k = u
 unconnected P u d l r g Unbound k = u
 unconnected P u d l r g (Bound m) k = d _
 unconnected P u d l r g (Listening q) k = l _ _ _
-unconnected P u d l r g (Connected c) k = absurd (not-connected (Connected c) k c refl)
+unconnected P u d l r g (Connected c) k = absurd (k c refl)

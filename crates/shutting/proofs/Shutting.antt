@@ -52,7 +52,7 @@ use Rattle.promise.proofs.Known.{Known, known, refused-done}
 use Rattle.promise.proofs.Asked.{slot-in}
 use Rattle.promise.proofs.Kept.{Keeps, keeps_same, row-changed, row_other}
 use Rattle.promise.proofs.Changed.{Fit, fit_same, row-stored, rows-kept, released-done}
-use Rattle.promise.proofs.Called.{Unconnected, not-connected, unconnected}
+use Rattle.promise.proofs.Called.{Unconnected, unconnected}
 use Rattle.promise.proofs.Held.{ring_long, places-long, tokens-long, Held, held, placed_same, connected-fit, connected-keeps, connected-put}
 use Rattle.promise.proofs.Live.{Live, live, opened, live-run, stale-run, state-seen}
 use Rattle.shutting.specs.Parts.{reads_of, writes_of, ended_with, left_of, dropped_of, Drops, Ends, Follows, Shuts}
@@ -277,7 +277,7 @@ module _ (p : ℕ) (rd wr : Bool) (w : List ℕ) (j : ℕ) (ej : j ≡ slot_of p
 
   module _ (slot : Slot) (es : slot ≡ loaded_at w j) where
     pub follows-not : Unconnected slot.state → Follows p rd wr w w
-    follows-not u = record { words = λ k e. absurd (not-connected slot.state u k (loaded-state w ej es ∙ e)) }
+    follows-not u = record { words = λ k e. absurd (u k (loaded-state w ej es ∙ e)) }
 
     pub follows : (k : Connection) → slot.state ≡ Connected k → (w' : List ℕ) → w' ≡ store_at w j (cell_of slot.generation (Connected (ended_with k k.inbox wr rd))) → Follows p rd wr w w'
     follows k ek w' ew =

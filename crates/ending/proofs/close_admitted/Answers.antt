@@ -1,0 +1,63 @@
+use Rattle.storage.specs.Rows.{lent}
+use Rattle.promise.proofs.Known.{known}
+use Rattle.promise.proofs.Asked.{live-in, slots-in}
+use Rattle.ending.proofs.Ended.{stale, closed-never, unbound-closed, bound-closed, listener-told, socket-fits, socket-within, connected-closed, lists-room}
+use borrow.Author.Rules.{rules}
+use mathlib.Core.Path.{ap}
+use mathlib.Core.Bool.{not}
+use Rattle.ending.proofs.close_admitted.Goals as goal
+
+pub returns-then-not-is_live : goal.returns-then-not-is_live
+returns-then-not-is_live c = search stale
+
+pub load-slot-requires : goal.load-slot-requires
+load-slot-requires c = search live-in
+
+pub leave-requires : goal.leave-requires
+leave-requires c = search live-in
+
+pub leave-requires-in-Bound : goal.leave-requires-in-Bound
+leave-requires-in-Bound c = search live-in
+
+pub end_listener-requires : goal.end_listener-requires
+end_listener-requires c =
+    let a = c.args in
+    let p = c.requires in
+    let v = c.is_live in
+    let i = c.slot_of-i in
+    let s = c.load-slot in
+    let d = (ap not c.if-not-is_live.false) in
+    let k = c.in-Listening.is in
+    let z = listener-told a.n a.c (lent a.words.now a.bytes.now a.tokens.now) a.wakes.now a.releases.now a.h.0 v.result v.ensures (record { refusal = 0; flags = 0; value = 0; items = 0; wakes = 0; releases = 0 }) (known p) d i.result i.ensures s.result s.ensures c.in-Listening.listener (search k) in
+    record { admitted = p; h_value = z.0; h_value_2 = (z.1, z.2) }
+
+pub end-requires : goal.end-requires
+end-requires c =
+    let a = c.args in
+    let p = c.requires in
+    let v = c.is_live in
+    let i = c.slot_of-i in
+    let s = c.load-slot in
+    let d = (ap not c.if-not-is_live.false) in
+    let k = c.in-Connected.is in record { i_lt_n = (socket-within a.n a.c (lent a.words.now a.bytes.now a.tokens.now) a.wakes.now a.releases.now a.h.0 v.result v.ensures (record { refusal = 0; flags = 0; value = 0; items = 0; wakes = 0; releases = 0 }) (known p) d i.result i.ensures s.result s.ensures c.in-Connected.connection (search k), slots-in p, p.tokens, p.small); fits = socket-fits a.n a.c (lent a.words.now a.bytes.now a.tokens.now) a.wakes.now a.releases.now a.h.0 v.result v.ensures (record { refusal = 0; flags = 0; value = 0; items = 0; wakes = 0; releases = 0 }) (known p) d i.result i.ensures s.result s.ensures c.in-Connected.connection (search k); wakes_in_bounds = lists-room p }
+
+pub returns-in-Closed : goal.returns-in-Closed
+returns-in-Closed c = search (closed-never, known)
+
+pub returns-in-Unbound : goal.returns-in-Unbound
+returns-in-Unbound c = search (unbound-closed, known)
+
+pub returns-in-Bound : goal.returns-in-Bound
+returns-in-Bound c = search (bound-closed, known)
+
+pub returns-in-Connected : goal.returns-in-Connected
+returns-in-Connected c =
+    let a = c.args in
+    let p = c.requires in
+    let v = c.is_live in
+    let i = c.slot_of-i in
+    let s = c.load-slot in
+    let d = (ap not c.if-not-is_live.false) in
+    let k = c.in-Connected.is in
+    let e = c.end in
+    connected-closed a.n a.c (lent a.words.now a.bytes.now a.tokens.now) a.wakes.now a.releases.now a.h.0 v.result v.ensures c.closed.result (known p) d i.result i.ensures s.result s.ensures c.in-Connected.connection (search k) _ _ _ e.result e.ensures c.closed.ensures

@@ -1,0 +1,19 @@
+use borrow.Author.Rules.{rules}
+use Rattle.ending.proofs.Ended.{ends-woken, ends-silent}
+use native.Mathlib.Omega.{arith}
+use Rattle.ending.proofs.end.Goals as goal
+
+pub offset_bounds-wakes-woken : goal.offset_bounds-wakes-woken
+offset_bounds-wakes-woken c = let p = c.requires in let g = c.well_formed in omega (arith, p.wakes_in_bounds.0, g.1.1.0)
+
+pub bounds-wakes-woken : goal.bounds-wakes-woken
+bounds-wakes-woken c = let p = c.requires in omega (arith, p.wakes_in_bounds.0)
+
+pub overflow_add-result : goal.overflow_add-result
+overflow_add-result c = let p = c.requires in let g = c.well_formed in omega (arith, p.wakes_in_bounds.0, g.1.1.0)
+
+pub returns-then-peer_open : goal.returns-then-peer_open
+returns-then-peer_open c = search ends-woken
+
+pub returns : goal.returns
+returns c = search ends-silent

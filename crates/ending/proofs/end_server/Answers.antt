@@ -1,0 +1,29 @@
+use borrow.Author.Rules.{rules}
+use Rattle.ending.proofs.Ended.{serves-always, server-fits, server-within, server-ended}
+use Rattle.ending.proofs.end_server.Goals as goal
+
+pub returns-in_default : goal.returns-in_default
+returns-in_default c =
+    let i = c.slot_of-i in
+    let s = c.load-slot in
+    let a = c.args in
+    let p = c.requires in
+    serves-always a.n a.c a.words.now a.server.0 i.result p.serves i.ensures s.result s.ensures c.in_default.not-Connected
+
+pub end-requires : goal.end-requires
+end-requires c =
+    let i = c.slot_of-i in
+    let s = c.load-slot in
+    let k = c.in-Connected.is in
+    let a = c.args in
+    let p = c.requires in record { i_lt_n = (server-within a.n a.c a.words.now a.server.0 i.result p.serves i.ensures s.result s.ensures c.in-Connected.connection (search k), p.n_in_bounds.0, p.n_in_bounds.1, p.n_in_bounds.2); fits = server-fits a.n a.c a.words.now a.server.0 i.result p.serves i.ensures s.result s.ensures c.in-Connected.connection (search k); wakes_in_bounds = p.wakes_in_bounds }
+
+pub returns : goal.returns
+returns c =
+    let i = c.slot_of-i in
+    let s = c.load-slot in
+    let k = c.in-Connected.is in
+    let a = c.args in
+    let p = c.requires in
+    let e = c.end in
+    server-ended a.n a.c a.words.now a.server.0 i.result p.serves i.ensures s.result s.ensures c.in-Connected.connection (search k) _ _ _ _ _ _ _ e.result e.ensures

@@ -1,0 +1,75 @@
+use borrow.Author.Rules.{rules}
+use Rattle.pairing.proofs.Reaching.{connect-stale, connect-unnamed, connect-long, connect-closed, connect-unbound, connect-bound, connect-listening, connect-connected}
+use Rattle.storage.specs.Rows.{lent}
+use Rattle.promise.specs.Promise.{lists}
+use Rattle.promise.specs.Answers.{refused_with}
+use Rattle.promise.proofs.Asked.{live-in}
+use mathlib.Core.Path.{ap}
+use mathlib.Core.Bool.{not}
+use Rattle.pairing.proofs.connect_admitted.Goals as goal
+
+pub returns-then-not-is_live : goal.returns-then-not-is_live
+returns-then-not-is_live c = search connect-stale
+
+pub returns-then-name-eq0 : goal.returns-then-name-eq0
+returns-then-name-eq0 c = search connect-unnamed
+
+pub returns-then-name-gt255 : goal.returns-then-name-gt255
+returns-then-name-gt255 c = search (connect-long, c.if-name-eq0.false)
+
+pub load-slot-requires : goal.load-slot-requires
+load-slot-requires c = search live-in
+
+pub reach-requires : goal.reach-requires
+reach-requires c =
+    let p = c.args in
+    let s = lent p.words.now p.bytes.now p.tokens.now in
+    let ls = lists p.wakes.now p.releases.now in
+    let v = c.is_live in
+    let i = c.slot_of-i in
+    let w = c.load-slot in record { admitted = c.requires; caller = connect-unbound p.n p.c s ls p.h.0 p.name.now (refused_with 0) v.result v.ensures (ap not c.if-not-is_live.false) i.result w.result i.ensures w.ensures c.if-name-eq0.false
+          c.if-name-gt255.false c.in-Unbound.is }
+
+pub returns-in-Closed : goal.returns-in-Closed
+returns-in-Closed c =
+    let p = c.args in
+    let s = lent p.words.now p.bytes.now p.tokens.now in
+    let ls = lists p.wakes.now p.releases.now in
+    let v = c.is_live in
+    let i = c.slot_of-i in
+    let w = c.load-slot in
+    connect-closed p.n p.c s ls p.h.0 p.name.now c.refused-in-Closed.result v.result v.ensures (ap not c.if-not-is_live.false) i.result w.result i.ensures w.ensures c.if-name-eq0.false
+    c.if-name-gt255.false c.in-Closed.is
+
+pub returns-in-Bound : goal.returns-in-Bound
+returns-in-Bound c =
+    let p = c.args in
+    let s = lent p.words.now p.bytes.now p.tokens.now in
+    let ls = lists p.wakes.now p.releases.now in
+    let v = c.is_live in
+    let i = c.slot_of-i in
+    let w = c.load-slot in
+    connect-bound p.n p.c s ls p.h.0 p.name.now c.refused-in-Bound.result v.result v.ensures (ap not c.if-not-is_live.false) i.result w.result i.ensures w.ensures c.if-name-eq0.false
+    c.if-name-gt255.false _ c.in-Bound.is c.refused-in-Bound.ensures
+
+pub returns-in-Listening : goal.returns-in-Listening
+returns-in-Listening c =
+    let p = c.args in
+    let s = lent p.words.now p.bytes.now p.tokens.now in
+    let ls = lists p.wakes.now p.releases.now in
+    let v = c.is_live in
+    let i = c.slot_of-i in
+    let w = c.load-slot in
+    connect-listening p.n p.c s ls p.h.0 p.name.now c.refused-in-Listening.result v.result v.ensures (ap not c.if-not-is_live.false) i.result w.result i.ensures w.ensures c.if-name-eq0.false
+    c.if-name-gt255.false _ c.in-Listening.is c.refused-in-Listening.ensures
+
+pub returns-in-Connected : goal.returns-in-Connected
+returns-in-Connected c =
+    let p = c.args in
+    let s = lent p.words.now p.bytes.now p.tokens.now in
+    let ls = lists p.wakes.now p.releases.now in
+    let v = c.is_live in
+    let i = c.slot_of-i in
+    let w = c.load-slot in
+    connect-connected p.n p.c s ls p.h.0 p.name.now c.refused-in-Connected.result v.result v.ensures (ap not c.if-not-is_live.false) i.result w.result i.ensures w.ensures c.if-name-eq0.false
+    c.if-name-gt255.false _ c.in-Connected.is c.refused-in-Connected.ensures

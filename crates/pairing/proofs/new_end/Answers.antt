@@ -1,0 +1,6 @@
+use borrow.Author.Rules.{rules}
+use Rattle.pairing.proofs.Storing.{end_is}
+use Rattle.pairing.proofs.new_end.Goals as goal
+
+pub returns : goal.returns
+returns c = search end_is

@@ -1,0 +1,6 @@
+use borrow.Author.Rules.{rules}
+use Rattle.readying.proofs.Readying.{room-is}
+use Rattle.readying.proofs.has_room.Goals as goal
+
+pub returns-in-Connected : goal.returns-in-Connected
+returns-in-Connected c = search room-is

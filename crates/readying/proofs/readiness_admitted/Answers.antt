@@ -1,0 +1,29 @@
+use borrow.Author.Rules.{rules}
+use Rattle.readying.proofs.Readying.{stale, closed-never, of-unbound, of-bound, of-empty, of-waiting, of-connected}
+use Rattle.promise.proofs.Known.{known}
+use Rattle.promise.proofs.Asked.{live-in}
+use Rattle.readying.proofs.readiness_admitted.Goals as goal
+
+pub returns-then-not-is_live : goal.returns-then-not-is_live
+returns-then-not-is_live c = search stale
+
+pub load-slot-requires : goal.load-slot-requires
+load-slot-requires c = search live-in
+
+pub returns-then-listener-eq0 : goal.returns-then-listener-eq0
+returns-then-listener-eq0 c = search (of-empty, known)
+
+pub returns-in-Closed : goal.returns-in-Closed
+returns-in-Closed c = search (closed-never, known)
+
+pub returns-in-Unbound : goal.returns-in-Unbound
+returns-in-Unbound c = search (of-unbound, known)
+
+pub returns-in-Bound : goal.returns-in-Bound
+returns-in-Bound c = search (of-bound, known)
+
+pub returns-else-listener-eq0 : goal.returns-else-listener-eq0
+returns-else-listener-eq0 c = search (of-waiting, known)
+
+pub returns-in-Connected : goal.returns-in-Connected
+returns-in-Connected c = search (of-connected, known)

@@ -1,0 +1,15 @@
+use borrow.Author.Rules.{rules}
+use Rattle.readying.proofs.Readying.{peer-gone, peer-in, both_ends, sum_fits}
+use Rattle.readying.proofs.ready.Goals as goal
+
+pub returns-then-not-is_open : goal.returns-then-not-is_open
+returns-then-not-is_open c = search peer-gone
+
+pub writable-requires : goal.writable-requires
+writable-requires c = search peer-in
+
+pub overflow_add-result : goal.overflow_add-result
+overflow_add-result c = record { fits = search sum_fits }
+
+pub returns : goal.returns
+returns c = search both_ends

@@ -1,0 +1,71 @@
+use borrow.Author.Rules.{rules}
+use Rattle.sending.proofs.Sending.{peer-in, peer-still, push-fits, push-asked, sends-damaged, sends-refused, sends-pushed}
+use Rattle.promise.specs.Promise.{lists}
+use Rattle.promise.proofs.Asked.{some-wake}
+use Rattle.sending.proofs.send.Goals as goal
+
+pub load-slot-requires : goal.load-slot-requires
+load-slot-requires c =
+    let a = c.args in
+    let pre = c.requires in
+    let j = c.slot_of-j in
+    peer-in pre.admitted a.p.0 pre.p_value j.result j.ensures
+
+pub returns-in_default : goal.returns-in_default
+returns-in_default c =
+    let a = c.args in
+    let pre = c.requires in
+    let j = c.slot_of-j in
+    let s = c.load-slot in
+    sends-damaged pre.admitted a.p.0 pre.p_value j.result j.ensures s.result s.ensures a.buf.now a.items.now (lists a.wakes.now a.releases.now) c.refused.result c.in_default.not-Connected c.refused.ensures
+
+pub push_refusal-requires : goal.push_refusal-requires
+push_refusal-requires c =
+    let a = c.args in
+    let pre = c.requires in
+    let j = c.slot_of-j in
+    let s = c.load-slot in
+    let k = c.in-Connected.is in
+    push-fits pre.admitted a.p.0 pre.p_value j.result j.ensures s.result s.ensures c.in-Connected.peer (search k)
+
+pub push-pushed-requires : goal.push-pushed-requires
+push-pushed-requires c =
+    let a = c.args in
+    let pre = c.requires in
+    let j = c.slot_of-j in
+    let s = c.load-slot in
+    let k = c.in-Connected.is in
+    let v = c.push_refusal in
+    let m = push-asked pre.admitted a.p.0 pre.p_value j.result j.ensures s.result s.ensures c.in-Connected.peer (search k) a.buf.now a.items.now v.result v.ensures (search c.in-Accepted.is) in
+    record { i_lt_n = m.0; well = m.1.0; may_push = m.1.1 }
+
+pub store_inbox-requires : goal.store_inbox-requires
+store_inbox-requires c =
+    let a = c.args in
+    let pre = c.requires in
+    let j = c.slot_of-j in
+    search (peer-still pre.admitted a.p.0 pre.p_value j.result j.ensures, rules)
+
+pub bounds-wakes-0 : goal.bounds-wakes-0
+bounds-wakes-0 c = some-wake c.requires.admitted
+
+pub returns-in-Refused : goal.returns-in-Refused
+returns-in-Refused c =
+    let a = c.args in
+    let pre = c.requires in
+    let j = c.slot_of-j in
+    let s = c.load-slot in
+    let k = c.in-Connected.is in
+    let v = c.push_refusal in
+    sends-refused pre.admitted a.p.0 pre.p_value j.result j.ensures s.result s.ensures c.in-Connected.peer (search k) a.buf.now a.items.now v.result v.ensures (lists a.wakes.now a.releases.now) c.refused-in-Refused.result c.in-Refused.no (search c.in-Refused.is) c.refused-in-Refused.ensures
+
+pub returns-in-Accepted : goal.returns-in-Accepted
+returns-in-Accepted c =
+    let a = c.args in
+    let pre = c.requires in
+    let j = c.slot_of-j in
+    let s = c.load-slot in
+    let k = c.in-Connected.is in
+    let v = c.push_refusal in
+    let q = c.push-pushed in
+    sends-pushed pre.admitted a.p.0 pre.p_value j.result j.ensures s.result s.ensures c.in-Connected.peer (search k) a.buf.now a.items.now v.result v.ensures (search c.in-Accepted.is) (lists a.wakes.now a.releases.now) c.accepted.result q.result _ _ _ _ q.ensures (search rules) (search rules) (search rules) c.store_inbox.ensures c.accepted.ensures

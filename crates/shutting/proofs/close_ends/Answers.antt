@@ -1,0 +1,6 @@
+use borrow.Author.Rules.{rules}
+use Rattle.shutting.proofs.Shutting.{ends-stored}
+use Rattle.shutting.proofs.close_ends.Goals as goal
+
+pub returns : goal.returns
+returns c = search ends-stored

@@ -1,0 +1,9 @@
+use borrow.Author.Rules.{rules}
+use Rattle.shutting.proofs.Shutting.{nothing-dropped, all-dropped}
+use Rattle.shutting.proofs.drop_queued.Goals as goal
+
+pub returns-then-not-read : goal.returns-then-not-read
+returns-then-not-read c = search nothing-dropped
+
+pub returns : goal.returns
+returns c = search all-dropped

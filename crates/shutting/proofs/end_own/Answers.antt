@@ -1,0 +1,6 @@
+use borrow.Author.Rules.{rules}
+use Rattle.shutting.proofs.Shutting.{own-ended}
+use Rattle.shutting.proofs.end_own.Goals as goal
+
+pub returns : goal.returns
+returns c = search own-ended
