@@ -1,0 +1,14 @@
+use borrow.Author.Rules.{rules}
+use Rattle.unix_socket.proofs.Entered.{enters, refused-first, then_runs}
+use Rattle.unix_socket.proofs.bind.Goals as goal
+
+pub bind_admitted-requires : goal.bind_admitted-requires
+bind_admitted-requires c =
+    let v = c.admission in
+    enters v.result v.ensures (search c.in-Accepted.is)
+
+pub returns-in-Refused : goal.returns-in-Refused
+returns-in-Refused c = search refused-first
+
+pub returns-in-Accepted : goal.returns-in-Accepted
+returns-in-Accepted c = search then_runs

@@ -1,0 +1,14 @@
+use borrow.Author.Rules.{rules}
+use Rattle.unix_socket.proofs.Entered.{enters, refused-first, then_runs}
+use Rattle.unix_socket.proofs.close.Goals as goal
+
+pub close_admitted-requires : goal.close_admitted-requires
+close_admitted-requires c =
+    let v = c.admission in
+    enters v.result v.ensures (search c.in-Accepted.is)
+
+pub returns-in-Refused : goal.returns-in-Refused
+returns-in-Refused c = search refused-first
+
+pub returns-in-Accepted : goal.returns-in-Accepted
+returns-in-Accepted c = search then_runs

@@ -1,0 +1,14 @@
+use borrow.Author.Rules.{rules}
+use Rattle.unix_socket.proofs.Entered.{enters, refused-first, then_runs, refused-fills, then-fills}
+use Rattle.unix_socket.proofs.read.Goals as goal
+
+pub read_admitted-requires : goal.read_admitted-requires
+read_admitted-requires c =
+    let v = c.admission in
+    enters v.result v.ensures (search c.in-Accepted.is)
+
+pub returns-in-Refused : goal.returns-in-Refused
+returns-in-Refused c = search (refused-first, refused-fills)
+
+pub returns-in-Accepted : goal.returns-in-Accepted
+returns-in-Accepted c = search (then_runs, then-fills)

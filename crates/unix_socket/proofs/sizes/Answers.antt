@@ -1,0 +1,17 @@
+use borrow.Author.Rules.{rules}
+use Rattle.unix_socket.proofs.Leasts.{least-refused, in_bounds, least-answered}
+use mathlib.Core.Path.{ap}
+use mathlib.Core.Bool.{not}
+use Rattle.unix_socket.proofs.sizes.Goals as goal
+
+pub returns-then-not-in_range : goal.returns-then-not-in_range
+returns-then-not-in_range c = search least-refused
+
+pub least_sizes-least-requires : goal.least_sizes-least-requires
+least_sizes-least-requires c =
+    let a = c.args in
+    let f = c.in_range in
+    in_bounds a.n a.c f.result f.ensures (ap not c.if-not-in_range.false)
+
+pub returns : goal.returns
+returns c = search least-answered
