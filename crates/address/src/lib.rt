@@ -2,7 +2,7 @@
 // is here read from and written to lent bytes.
 #![tactic(auto)]
 
-ghost use Rattle.std.specs.Prelude.{◌≡◌, ◌≤◌, length, replicate};
+ghost use Rattle.std.specs.Prelude.{◌≡◌, ◌≤◌, ◌++◌, length, take, drop, replicate};
 ghost use Rattle.address.specs.Address.{address_of, path_in, refusal_in, length_of, Wrote, ZeroFrom};
 
 use words::{Answer, Errno, Verdict};
@@ -31,7 +31,7 @@ impl SockAddrUn {
             return Verdict::Refused(Errno::EINVAL);
         }
         le::put_u16(addr, 0, abi::AF_UNIX);
-        let end = 2 + bytes::copy(path, &mut addr[2..]);
+        let end = 2 + copy(path, &mut addr[2..]);
         clear(&mut addr[end..SockAddrUn::BYTES]);
         Verdict::Accepted
     }
@@ -105,4 +105,15 @@ fn clear(s: &mut [u8])
         s[i] = 0;
         i += 1;
     }
+}
+
+// Copies `src` to the front of `dst`, and says how many bytes that is.
+fn copy(src: &[u8], dst: &mut [u8]) -> usize
+    requires { length src.now ≤ length dst.old }
+    ensures count { result ≡ length src.now }
+    ensures copied { dst.new ≡ take (length src.now) src.now ++ drop (length src.now) dst.old }
+{
+    let n = src.len();
+    dst[..n].copy_from_slice(src);
+    n
 }

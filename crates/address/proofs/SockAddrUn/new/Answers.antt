@@ -1,0 +1,16 @@
+use Rattle.address.proofs.Addresses.{no_room, long_path, bad-path, wrote}
+use borrow.Author.Rules.{rules}
+use Rattle.address.proofs.SockAddrUn.new.Goals as goal
+
+-- The family, then the path, then zeros.
+pub returns-then-addr-lt-BYTES : goal.returns-then-addr-lt-BYTES
+returns-then-addr-lt-BYTES c = search no_room
+
+pub returns-then-path-ge-SUN_PATH_MAX : goal.returns-then-path-ge-SUN_PATH_MAX
+returns-then-path-ge-SUN_PATH_MAX c = search long_path
+
+pub returns-then-not-is_utf8 : goal.returns-then-not-is_utf8
+returns-then-not-is_utf8 c = search bad-path
+
+pub returns : goal.returns
+returns c = search wrote
