@@ -7,7 +7,6 @@ use Prim.Native.Nat.{ℕ, ◌+◌, ◌-◌, ◌*◌, ◌^◌, ◌≤◌, ◌<◌
 use native.Mathlib.Decide.{dec_lt, ℕ_discrete as dec_eq}
 use native.Mathlib.Omega.{arith}
 use lib.ListN.{length, take, drop, get_or, set}
-use Rattle.storage.specs.contracts.State
 use Rattle.ring.specs.Ring.{place_of, queued}
 use Rattle.ring.proofs.Copying.{place_is, place-low}
 use Rattle.ring.proofs.Queued.{Place, place-apart, place-further, queued-length, queued-at, queued-drop}

@@ -4,7 +4,7 @@ use mathlib.Core.Path.{◌≡◌, refl, sym, ap, ◌∙◌, subst}
 use mathlib.Core.Logic.{◌≢◌}
 use mathlib.Core.Bool.{true}
 use mathlib.Core.List.{List, [], ◌∷◌, ◌++◌}
-use Prim.Native.Nat.{ℕ, ◌+◌, ◌≤◌}
+use Prim.Native.Nat.{ℕ, ◌≤◌}
 use native.Mathlib.Nat.{le_of_eq}
 use native.Mathlib.Decide.{ℕ_discrete}
 use native.Mathlib.Omega.{arith}
@@ -23,7 +23,7 @@ use Rattle.storage.specs.Rows.{Store}
 use Rattle.storage.specs.View.{view}
 use Rattle.table.specs.Admission.{lists_fit}
 use Rattle.table.proofs.Facts.{admitted}
-use Rattle.promise.specs.Promise.{lists, Done, Filled}
+use Rattle.promise.specs.Promise.{Done, Filled}
 use Rattle.cases.specs.Step.{Request, Result, outcome_of, Allowed}
 use Rattle.cases.specs.Made.{Made}
 use Rattle.cases.specs.Sleeper.{Woken}

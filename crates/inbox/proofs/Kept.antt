@@ -4,7 +4,7 @@ use Rattle.laws.proofs.Tests.{and_left, and_right, and-four}
 use Rattle.ring.specs.Ring.{place_of}
 use Rattle.ring.proofs.Queued.{place_in}
 use Rattle.ring.proofs.Copying.{place_is}
-use Rattle.rules.specs.Inbox.{is_nil, all_items, append, group, moved}
+use Rattle.rules.specs.Inbox.{is_nil, all_items, append, group}
 use Rattle.rules.specs.Moving.{Policy}
 use Rattle.rules.proofs.InboxOk.{Rising, InboxOk, append-ok, rest_ok}
 use Rattle.inbox.specs.View.{count, bytes_of, items_in, distances, groups_of, view}

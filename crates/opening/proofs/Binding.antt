@@ -8,8 +8,6 @@ use native.Mathlib.Omega.{arith}
 use lib.ListN.{length, take, drop, set}
 use lib.Seq.{sets, sets-eq, paste, take-paste, take_all, set-set}
 use borrow.Author.Tests.{le-leb}
-use denote.Enum.Declared
-use Rattle.storage.specs.contracts.State
 use Rattle.rules.specs.Table as model
 use Rattle.rules.specs.Table.{Table, at, put, slot_of, become, first, holds, holder}
 use Rattle.rules.specs.Outcome.{Call, Outcome, refuse, refuse_if, answer}

@@ -1,11 +1,10 @@
 -- A call at a handle, once the handle has been asked and its slot loaded.
-use mathlib.Core.Path.{◌≡◌, refl, sym, ap, ◌∙◌, subst}
+use mathlib.Core.Path.{◌≡◌, refl, sym, ap, ◌∙◌}
 use mathlib.Core.Logic.{◌≢◌}
 use mathlib.Core.Bool.{Bool, false, not}
-use mathlib.Core.List.{List, [], ◌∷◌}
+use mathlib.Core.List.{List}
 use Prim.Native.Nat.{ℕ, ◌<◌}
 use native.Mathlib.Omega.{arith}
-use denote.Enum.Declared
 use Rattle.rules.specs.Table as model
 use Rattle.rules.specs.Table.{Table, at, put, slot_of, become}
 use Rattle.storage.specs.Cells.{cell_at, state_of}
@@ -15,10 +14,8 @@ use Rattle.storage.specs.Finding.{live_in}
 use Rattle.storage.specs.declared.Slot.{Slot}
 use Rattle.storage.specs.declared.State.{State}
 use Rattle.storage.specs.declared.State.TheVariants.{Closed, Unbound, Bound, Listening, Connected}
-use Rattle.storage.specs.declared.Listener.{Listener}
 use Rattle.storage.specs.declared.Connection.{Connection}
 use Rattle.storage.proofs.Coding.{loaded_at}
-use Rattle.storage.specs.contracts.State
 use Rattle.storage.proofs.Viewed.{seen}
 use Rattle.promise.proofs.Live.{Live, live}
 

@@ -1,7 +1,7 @@
 -- The bits of a socket's readiness: in one call none rises, or the socket is woken.
 use mathlib.Core.Path.{◌≡◌, refl, sym, ap, ◌∙◌, subst}
 use mathlib.Core.Logic.{◌⊎◌, inl, inr, ⊎_elim}
-use mathlib.Core.Option.{none, some}
+use mathlib.Core.Option.{some}
 use Prim.Native.Nat.{ℕ, ◌+◌, ◌/◌, ◌%◌, ◌≤◌}
 use native.Mathlib.Omega.{arith}
 use mathlib.Core.Bool.{Bool, true, false, cond, not, ◌&&◌, ◌||◌, true≢false, false≢true, and-false}
@@ -9,7 +9,7 @@ use mathlib.Core.List.{List, [], ◌∷◌, Memᴰ}
 use borrow.Author.Tests.{le-ltb, ltb-false, not-false}
 use Rattle.laws.proofs.Tests.{cond_both, or_left, or_right}
 use Rattle.rules.specs.WellFormed.{is_connected}
-use Rattle.rules.proofs.Model.{Table, State, Inbox, Call, at, is_open, state_of, is_nil, queued, has_room, ready, run}
+use Rattle.rules.proofs.Model.{Table, State, Inbox, Call, is_open, state_of, is_nil, queued, has_room, ready, run}
 use Rattle.rules.proofs.Frame.{none-some, some_inj}
 use Rattle.rules.proofs.Wf.{peer_of, WellFormed}
 use Rattle.rules.proofs.Ends.{out_of}

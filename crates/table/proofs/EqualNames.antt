@@ -11,7 +11,6 @@ use lib.ListN.{length, take}
 use lib.Seq.{length-take-le}
 use borrow.Author.Tests.{le-leb, leb-true, eq-eqb, eqb-true}
 use Rattle.laws.proofs.Tests.{and_left, and_right, and-three, less-or, both}
-use Rattle.rules.specs.Table as model
 use Rattle.rules.specs.Table.{at, same, holds}
 use Rattle.rules.specs.WellFormed.{implies, alone, named_well}
 use Rattle.rules.proofs.Wf.{same_refl, same-eq}

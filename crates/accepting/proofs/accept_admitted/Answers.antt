@@ -1,4 +1,3 @@
-use borrow.Author.Rules.{rules}
 use Rattle.promise.proofs.Known.{known}
 use Rattle.promise.proofs.Asked.{live-in, some-wake}
 use Rattle.accepting.proofs.Accepting.{entry_in, next-in, next_fits, server-in, server-still-in, accept-stale, accept-not, accept-none, accept-damaged, accept-made}

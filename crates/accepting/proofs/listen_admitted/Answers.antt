@@ -1,4 +1,3 @@
-use borrow.Author.Rules.{rules}
 use Rattle.promise.proofs.Known.{known}
 use Rattle.promise.proofs.Asked.{live-in}
 use Rattle.accepting.proofs.Listening.{listen-stale, listen-closed, listen-unbound, listen-connected, listen-bound, listen-more, listen-less}

@@ -1,11 +1,8 @@
 use Rattle.address.proofs.Cleared.{one_more, all}
-use mathlib.Core.Path.{◌≡◌}
-use mathlib.Core.List.{◌++◌}
-use Prim.Native.Nat.{◌-◌, ◌≤◌}
 use native.Mathlib.Omega.{arith}
 use borrow.Author.Rules.{rules}
 use borrow.Author.Fill.{fill_none}
-use lib.ListN.{length, drop, replicate, length-set}
+use lib.ListN.{length-set}
 use Rattle.address.proofs.clear.Goals as goal
 
 pub loop-i-init : goal.loop-i-init

@@ -1,8 +1,5 @@
-use mathlib.Core.Path.{◌≡◌, refl}
-use Prim.Native.Nat.{◌+◌, ◌-◌, ◌≤◌}
+use mathlib.Core.Path.{refl}
 use borrow.Author.Rules.{rules}
-use lib.ListN.{length, drop}
-use Rattle.address.specs.Address.{up_to_zero}
 use Rattle.address.proofs.Zeros.{found, on, none}
 use Rattle.address.proofs.zero_from.Goals as goal
 

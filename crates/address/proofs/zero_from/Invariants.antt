@@ -1,9 +1,7 @@
-use mathlib.Core.Path.{◌≡◌, refl}
+use mathlib.Core.Path.{◌≡◌}
 use Prim.Native.Nat.{◌+◌, ◌-◌, ◌≤◌}
-use borrow.Author.Rules.{rules}
 use lib.ListN.{length, drop}
 use Rattle.address.specs.Address.{up_to_zero}
-use Rattle.address.proofs.Zeros.{found, on, none}
 use Rattle.address.proofs.zero_from.Given as goal
 
 -- No zero stands before i.

@@ -1,4 +1,3 @@
-use borrow.Author.Rules.{rules}
 use lib.ListN.{length}
 use Rattle.inbox.specs.Promise.{policy_of}
 use Rattle.promise.specs.Promise.{lists}

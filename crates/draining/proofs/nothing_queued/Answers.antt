@@ -1,4 +1,3 @@
-use borrow.Author.Rules.{rules}
 use Rattle.draining.proofs.Draining.{queued-shut, queued-gone, queued-waits}
 use Rattle.draining.proofs.nothing_queued.Goals as goal
 

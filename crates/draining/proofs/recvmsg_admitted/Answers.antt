@@ -1,4 +1,3 @@
-use borrow.Author.Rules.{rules}
 use Rattle.promise.specs.Promise.{lists}
 use Rattle.promise.proofs.Asked.{live-asked}
 use Rattle.draining.proofs.Draining.{recvmsg-stale, recvmsg-empty, recvmsg-drains}

@@ -1,4 +1,3 @@
-use borrow.Author.Rules.{rules}
 use Rattle.draining.proofs.Draining.{none-woken, one-woken}
 use mathlib.Core.Path.{ap}
 use mathlib.Core.Bool.{not}

@@ -2,7 +2,6 @@ use Rattle.storage.specs.Rows.{lent}
 use Rattle.promise.proofs.Known.{known}
 use Rattle.promise.proofs.Asked.{live-in, slots-in}
 use Rattle.ending.proofs.Ended.{stale, closed-never, unbound-closed, bound-closed, listener-told, socket-fits, socket-within, connected-closed, lists-room}
-use borrow.Author.Rules.{rules}
 use mathlib.Core.Path.{ap}
 use mathlib.Core.Bool.{not}
 use Rattle.ending.proofs.close_admitted.Goals as goal

@@ -1,4 +1,3 @@
-use borrow.Author.Rules.{rules}
 use Rattle.ending.proofs.Ended.{ends-woken, ends-silent}
 use native.Mathlib.Omega.{arith}
 use Rattle.ending.proofs.end.Goals as goal

@@ -1,8 +1,6 @@
-use Prim.Native.Nat.{◌-◌, ◌≤◌}
 use native.Mathlib.Omega.{arith}
-use borrow.Author.Rules.{rules}
 use Rattle.promise.proofs.Asked.{own_in}
-use Rattle.ending.proofs.Ended.{Going, begun, left-first, going-first, going_on, going-words, going_done, serves-next, words-next, room_next, heads, entry-room}
+use Rattle.ending.proofs.Ended.{begun, left-first, going-first, going_on, going-words, going_done, serves-next, words-next, room_next, heads, entry-room}
 use Rattle.ending.proofs.end_listener.Goals as goal
 
 pub leave-requires : goal.leave-requires

@@ -1,4 +1,3 @@
-use borrow.Author.Rules.{rules}
 use Rattle.ending.proofs.Ended.{serves-always, server-fits, server-within, server-ended}
 use Rattle.ending.proofs.end_server.Goals as goal
 

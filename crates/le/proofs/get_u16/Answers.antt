@@ -1,6 +1,5 @@
 use native.Mathlib.Omega.{arith}
 use Rattle.le.specs.Le.{le}
-use borrow.Author.Rules.{rules}
 use Rattle.le.proofs.get_u16.Goals as goal
 
 -- The two bytes, the least first.

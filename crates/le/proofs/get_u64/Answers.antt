@@ -1,6 +1,5 @@
 use native.Mathlib.Omega.{arith}
 use Rattle.le.proofs.Widths.{le_split}
-use borrow.Author.Rules.{rules}
 use Rattle.le.proofs.get_u64.Goals as goal
 
 -- Two halves are the whole.

@@ -1,6 +1,5 @@
 use mir.Syntax.{w32}
 use mir.ValLaws.{to_z-of_z}
-use borrow.Author.Rules.{rules}
 use Rattle.le.proofs.put_i32.Goals as goal
 
 -- The same bits, stored.

@@ -4,7 +4,6 @@ use native.Mathlib.Numerals.{add-one}
 use native.Mathlib.Omega.{arith}
 use lib.ListN.{length-set}
 use Rattle.le.specs.Le.{bytes}
-use borrow.Author.Rules.{rules}
 use Rattle.le.proofs.put_u16.Goals as goal
 
 -- Two bytes, the least first.

@@ -1,5 +1,4 @@
 use Rattle.le.proofs.Widths.{halves}
-use borrow.Author.Rules.{rules}
 use Rattle.le.proofs.put_u64.Goals as goal
 
 -- Two halves are the whole.

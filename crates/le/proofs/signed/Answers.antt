@@ -1,5 +1,4 @@
 use native.Mathlib.Omega.{arith}
-use borrow.Author.Rules.{rules}
 use Rattle.le.proofs.Signs.{high_fits, high_is}
 use Rattle.le.proofs.signed.Goals as goal
 

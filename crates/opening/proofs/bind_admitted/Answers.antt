@@ -1,4 +1,3 @@
-use borrow.Author.Rules.{rules}
 use Rattle.promise.proofs.Known.{known}
 use Rattle.promise.proofs.Asked.{live-in}
 use Rattle.opening.proofs.Binding.{name_in, bind-stale, bind-nothing, bind-long, bind-again, bind-taken, bind-made}

@@ -1,4 +1,3 @@
-use borrow.Author.Rules.{rules}
 use Rattle.promise.proofs.Asked.{free_in, next_fits, next-handle}
 use Rattle.promise.proofs.Known.{known}
 use Rattle.opening.proofs.Socketing.{socket-refused, socket-full, socket-made}

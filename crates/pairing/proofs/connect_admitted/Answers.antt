@@ -1,4 +1,3 @@
-use borrow.Author.Rules.{rules}
 use Rattle.pairing.proofs.Reaching.{connect-stale, connect-unnamed, connect-long, connect-closed, connect-unbound, connect-bound, connect-listening, connect-connected}
 use Rattle.storage.specs.Rows.{lent}
 use Rattle.promise.specs.Promise.{lists}
@@ -27,8 +26,11 @@ reach-requires c =
     let ls = lists p.wakes.now p.releases.now in
     let v = c.is_live in
     let i = c.slot_of-i in
-    let w = c.load-slot in record { admitted = c.requires; caller = connect-unbound p.n p.c s ls p.h.0 p.name.now (refused_with 0) v.result v.ensures (ap not c.if-not-is_live.false) i.result w.result i.ensures w.ensures c.if-name-eq0.false
-          c.if-name-gt255.false c.in-Unbound.is }
+    let w = c.load-slot in record {
+      admitted = c.requires;
+      caller = connect-unbound p.n p.c s ls p.h.0 p.name.now (refused_with 0) v.result v.ensures (ap not c.if-not-is_live.false) i.result w.result i.ensures w.ensures c.if-name-eq0.false
+          c.if-name-gt255.false c.in-Unbound.is;
+    }
 
 pub returns-in-Closed : goal.returns-in-Closed
 returns-in-Closed c =

@@ -1,4 +1,3 @@
-use borrow.Author.Rules.{rules}
 use Rattle.pairing.proofs.Storing.{all-joined, new_word, pair-asks}
 use Rattle.pairing.proofs.join.Goals as goal
 

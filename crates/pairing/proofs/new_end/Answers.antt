@@ -1,4 +1,3 @@
-use borrow.Author.Rules.{rules}
 use Rattle.pairing.proofs.Storing.{end_is}
 use Rattle.pairing.proofs.new_end.Goals as goal
 

@@ -1,4 +1,3 @@
-use borrow.Author.Rules.{rules}
 use Rattle.pairing.proofs.Storing.{paired}
 use Rattle.pairing.proofs.pair.Goals as goal
 

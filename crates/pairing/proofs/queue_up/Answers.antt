@@ -1,4 +1,3 @@
-use borrow.Author.Rules.{rules}
 use Rattle.pairing.proofs.Storing.{queued-up}
 use Rattle.pairing.proofs.queue_up.Goals as goal
 

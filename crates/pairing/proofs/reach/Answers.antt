@@ -1,4 +1,3 @@
-use borrow.Author.Rules.{rules}
 use Rattle.pairing.proofs.Reaching.{reach-none, found-handle, reach-other, reach-full, reach-no-slot, join-asks, reach-made}
 use Rattle.storage.specs.Rows.{lent}
 use Rattle.promise.specs.Promise.{lists}

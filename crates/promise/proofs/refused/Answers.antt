@@ -1,4 +1,3 @@
-use borrow.Author.Rules.{rules}
 use Rattle.promise.proofs.Answering.{refused-is}
 use Rattle.promise.proofs.refused.Goals as goal
 

@@ -1,4 +1,3 @@
-use borrow.Author.Rules.{rules}
 use Rattle.readying.proofs.Readying.{room-is}
 use Rattle.readying.proofs.has_room.Goals as goal
 

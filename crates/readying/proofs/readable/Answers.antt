@@ -1,4 +1,3 @@
-use borrow.Author.Rules.{rules}
 use Rattle.readying.proofs.Readying.{some_bytes, shut-inbox, no_bytes}
 use Rattle.readying.proofs.readable.Goals as goal
 

@@ -1,4 +1,3 @@
-use borrow.Author.Rules.{rules}
 use Rattle.readying.proofs.Readying.{stale, closed-never, of-unbound, of-bound, of-empty, of-waiting, of-connected}
 use Rattle.promise.proofs.Known.{known}
 use Rattle.promise.proofs.Asked.{live-in}

@@ -1,4 +1,3 @@
-use borrow.Author.Rules.{rules}
 use Rattle.readying.proofs.Readying.{peer-gone, peer-in, both_ends, sum_fits}
 use Rattle.readying.proofs.ready.Goals as goal
 

@@ -1,4 +1,3 @@
-use borrow.Author.Rules.{rules}
 use Rattle.readying.proofs.Readying.{shut-outbox, some-room, no_room}
 use Rattle.readying.proofs.writable.Goals as goal
 

@@ -1,9 +1,8 @@
-use mathlib.Core.Path.{◌≡◌, refl}
-use Prim.Native.Nat.{◌-◌, ◌≤◌}
+use mathlib.Core.Path.{refl}
 use native.Mathlib.Omega.{arith}
 use borrow.Author.Rules.{rules}
-use lib.ListN.{length, drop, length-set}
-use lib.Seq.{paste, paste-zero}
+use lib.ListN.{drop, length-set}
+use lib.Seq.{paste-zero}
 use Rattle.ring.proofs.Copying.{copied, done}
 use Rattle.ring.proofs.copy_u8.Goals as goal
 

@@ -1,10 +1,7 @@
-use mathlib.Core.Path.{◌≡◌, refl}
+use mathlib.Core.Path.{◌≡◌}
 use Prim.Native.Nat.{◌-◌, ◌≤◌}
-use native.Mathlib.Omega.{arith}
-use borrow.Author.Rules.{rules}
-use lib.ListN.{length, drop, length-set}
-use lib.Seq.{paste, paste-zero}
-use Rattle.ring.proofs.Copying.{copied, done}
+use lib.ListN.{length, drop}
+use lib.Seq.{paste}
 use Rattle.ring.proofs.copy_u8.Given as goal
 
 -- The first j are copied.

@@ -1,4 +1,3 @@
-use borrow.Author.Rules.{rules}
 use Rattle.ring.proofs.Copying.{fill_one, fill-two}
 use Rattle.ring.proofs.fill_u64.Goals as goal
 

@@ -1,4 +1,3 @@
-use borrow.Author.Rules.{rules}
 use Rattle.ring.proofs.Copying.{out_one, out-two}
 use Rattle.ring.proofs.read_u32.Goals as goal
 

@@ -1,10 +1,7 @@
-use mathlib.Core.Path.{◌≡◌, refl}
+use mathlib.Core.Path.{◌≡◌}
 use Prim.Native.Nat.{◌-◌, ◌≤◌}
-use native.Mathlib.Omega.{arith}
-use borrow.Author.Rules.{rules}
-use lib.ListN.{length, replicate, length-set}
-use lib.Seq.{paste, paste-zero}
-use Rattle.ring.proofs.Copying.{repeated, done}
+use lib.ListN.{length, replicate}
+use lib.Seq.{paste}
 use Rattle.ring.proofs.run_u64.Given as goal
 
 -- The first j are stored.

@@ -1,4 +1,3 @@
-use borrow.Author.Rules.{rules}
 use Rattle.ring.proofs.Copying.{in_one, in_two}
 use Rattle.ring.proofs.write_u8.Goals as goal
 

@@ -1,4 +1,3 @@
-use borrow.Author.Rules.{rules}
 use Rattle.promise.proofs.Asked.{live-in}
 use Rattle.sending.proofs.Sending.{sendmsg-stale, sendmsg-apart, sendmsg-shut, sendmsg-gone, send-asked, sendmsg-sends}
 use Rattle.promise.specs.Promise.{lists}

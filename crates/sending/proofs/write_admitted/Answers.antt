@@ -1,4 +1,3 @@
-use borrow.Author.Rules.{rules}
 use Rattle.storage.specs.Rows.{lent}
 use Rattle.promise.specs.Promise.{lists}
 use Rattle.sending.proofs.Sending.{write-sends}

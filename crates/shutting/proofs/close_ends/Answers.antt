@@ -1,4 +1,3 @@
-use borrow.Author.Rules.{rules}
 use Rattle.shutting.proofs.Shutting.{ends-stored}
 use Rattle.shutting.proofs.close_ends.Goals as goal
 

@@ -1,4 +1,3 @@
-use borrow.Author.Rules.{rules}
 use Rattle.shutting.proofs.Shutting.{nothing-dropped, all-dropped}
 use Rattle.shutting.proofs.drop_queued.Goals as goal
 

@@ -1,4 +1,3 @@
-use borrow.Author.Rules.{rules}
 use Rattle.shutting.proofs.Shutting.{own-ended}
 use Rattle.shutting.proofs.end_own.Goals as goal
 

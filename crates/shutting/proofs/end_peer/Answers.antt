@@ -1,4 +1,3 @@
-use borrow.Author.Rules.{rules}
 use Rattle.shutting.proofs.Shutting.{follow-in, follows-not, follows}
 use Rattle.shutting.proofs.end_peer.Goals as goal
 

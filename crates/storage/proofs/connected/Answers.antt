@@ -1,5 +1,4 @@
 use Rattle.storage.proofs.Coding.{connected-is}
-use borrow.Author.Rules.{rules}
 use Rattle.storage.proofs.connected.Goals as goal
 
 pub returns : goal.returns

@@ -1,5 +1,4 @@
 use Rattle.storage.proofs.Coding.{says-unbound, says-bound, says-listener, says-connected, says-closed}
-use borrow.Author.Rules.{rules}
 use Rattle.storage.proofs.decode.Goals as goal
 
 pub returns-then-cell-eq1 : goal.returns-then-cell-eq1

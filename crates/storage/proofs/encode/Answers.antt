@@ -1,5 +1,4 @@
 use Rattle.storage.proofs.Coding.{as-closed, as-unbound, as-bound, as-listening, as-connected}
-use borrow.Author.Rules.{rules}
 use Rattle.storage.proofs.encode.Goals as goal
 
 pub returns-in-Closed : goal.returns-in-Closed

@@ -1,6 +1,5 @@
 use Rattle.storage.proofs.Strides.{square, area}
 use native.Mathlib.Omega.{arith}
-use borrow.Author.Rules.{rules}
 use Rattle.storage.proofs.least_sizes.Goals as goal
 
 pub overflow_mul-result-2 : goal.overflow_mul-result-2

@@ -1,5 +1,4 @@
 use Rattle.storage.proofs.Coding.{stored}
-use borrow.Author.Rules.{rules}
 use Rattle.storage.proofs.store.Goals as goal
 
 pub returns : goal.returns

@@ -1,5 +1,4 @@
 use Rattle.storage.proofs.Fours.{stored}
-use borrow.Author.Rules.{rules}
 use Rattle.storage.proofs.store_cell.Goals as goal
 
 pub returns : goal.returns

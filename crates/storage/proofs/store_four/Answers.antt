@@ -1,6 +1,5 @@
 use lib.ListN.{length-set}
 use native.Mathlib.Omega.{arith}
-use borrow.Author.Rules.{rules}
 use Rattle.storage.proofs.store_four.Goals as goal
 
 pub bounds-words-b-2 : goal.bounds-words-b-2

@@ -1,15 +1,8 @@
-use borrow.Author.Rules.{sfits_of}
-use lib.ListN.{length-set}
-use mathlib.Core.Path.{◌∙◌}
-use Rattle.syscall.proofs.Bytes.{read_all}
-use mathlib.Core.Path.{◌≡◌, refl}
+use mathlib.Core.Path.{◌≡◌}
 use mathlib.Core.List.{◌++◌}
 use Prim.Native.Nat.{◌-◌, ◌≤◌}
-use native.Mathlib.Omega.{arith}
-use borrow.Author.Rules.{rules}
 use lib.ListN.{length, drop}
 use Rattle.syscall.specs.Control.{descriptors_at}
-use Rattle.syscall.proofs.Bytes.{read_next}
 use Rattle.syscall.proofs.read_descriptors.Given as goal
 
 abbrev pub invariant-loop-i : goal.invariant-loop-i

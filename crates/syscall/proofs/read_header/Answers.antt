@@ -1,6 +1,5 @@
 use borrow.Author.Rules.{sfits_of}
 use Rattle.syscall.proofs.Bytes.{header_read}
-use borrow.Author.Rules.{rules}
 use Rattle.syscall.proofs.read_header.Goals as goal
 
 pub returns : goal.returns

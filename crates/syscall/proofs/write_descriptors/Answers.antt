@@ -1,11 +1,8 @@
 use borrow.Author.Rules.{sfits_of}
 use Rattle.syscall.proofs.Bytes.{written_all}
-use mathlib.Core.Path.{◌≡◌, refl}
-use Prim.Native.Nat.{◌-◌, ◌≤◌}
+use mathlib.Core.Path.{refl}
 use native.Mathlib.Omega.{arith}
 use borrow.Author.Rules.{rules}
-use lib.ListN.{length, take}
-use lib.Seq.{sets}
 use Rattle.syscall.specs.Control.{descriptor_bytes}
 use Rattle.syscall.proofs.Bytes.{write-next}
 use Rattle.syscall.proofs.write_descriptors.Goals as goal

@@ -1,13 +1,8 @@
-use borrow.Author.Rules.{sfits_of}
-use Rattle.syscall.proofs.Bytes.{written_all}
-use mathlib.Core.Path.{◌≡◌, refl}
+use mathlib.Core.Path.{◌≡◌}
 use Prim.Native.Nat.{◌-◌, ◌≤◌}
-use native.Mathlib.Omega.{arith}
-use borrow.Author.Rules.{rules}
 use lib.ListN.{length, take}
 use lib.Seq.{sets}
 use Rattle.syscall.specs.Control.{descriptor_bytes}
-use Rattle.syscall.proofs.Bytes.{write-next}
 use Rattle.syscall.proofs.write_descriptors.Given as goal
 
 abbrev pub invariant-loop-i : goal.invariant-loop-i

@@ -1,5 +1,4 @@
 use Rattle.table.proofs.Pass.{other-n, other-c, by-zeros}
-use borrow.Author.Rules.{rules}
 use Rattle.table.proofs.header_well.Goals as goal
 
 pub returns-then-words-n : goal.returns-then-words-n

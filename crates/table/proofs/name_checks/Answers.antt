@@ -1,5 +1,4 @@
 use Rattle.table.proofs.Pass.{name-empty, name-over, name-first}
-use borrow.Author.Rules.{rules}
 use Rattle.table.proofs.name_checks.Goals as goal
 
 pub returns-then-m-lt1 : goal.returns-then-m-lt1

@@ -3,7 +3,6 @@ use Rattle.storage.specs.declared.Cell.{Cell}
 use Rattle.storage.proofs.Coding.{says-bound, says-listener}
 use Rattle.table.proofs.WordByWord.{plain-state}
 use Rattle.table.proofs.Pass.{bad-generation, bad-fields, by_state, by-bound}
-use borrow.Author.Rules.{rules}
 use mathlib.Core.Bool.{not}
 use Rattle.table.proofs.other_checks.Goals as goal
 

@@ -1,6 +1,3 @@
-use Prim.Native.Nat.{◌-◌}
-use borrow.Author.Rules.{rules}
-use Rattle.table.specs.OnePass.{ClosedRun}
 use Rattle.table.proofs.Runs.{closed-here}
 use Rattle.table.proofs.skip_closed.Goals as goal
 

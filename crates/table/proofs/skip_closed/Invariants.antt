@@ -1,7 +1,5 @@
 use Prim.Native.Nat.{◌-◌}
-use borrow.Author.Rules.{rules}
 use Rattle.table.specs.OnePass.{ClosedRun}
-use Rattle.table.proofs.Runs.{closed-here}
 use Rattle.table.proofs.skip_closed.Given as goal
 
 -- The slots from the first on up to i are closed.

@@ -1,6 +1,3 @@
-use Prim.Native.Nat.{◌-◌}
-use borrow.Author.Rules.{rules}
-use Rattle.table.specs.OnePass.{ClosedRun}
 use Rattle.table.proofs.Runs.{none-closed, two-closed}
 use Rattle.table.proofs.skip_pairs.Goals as goal
 

@@ -1,7 +1,5 @@
 use Prim.Native.Nat.{◌-◌}
-use borrow.Author.Rules.{rules}
 use Rattle.table.specs.OnePass.{ClosedRun}
-use Rattle.table.proofs.Runs.{none-closed, two-closed}
 use Rattle.table.proofs.skip_pairs.Given as goal
 
 -- The slots from the first on up to i are closed.

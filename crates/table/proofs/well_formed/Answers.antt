@@ -1,10 +1,7 @@
 use mathlib.Core.Path.{sym, ◌∙◌}
-use Prim.Native.Nat.{◌-◌, ◌≤◌}
 use native.Mathlib.Omega.{arith}
 use borrow.Author.Rules.{rules}
-use borrow.Author.Tests.{not-false}
-use Rattle.table.specs.OnePass.{slot_checks}
-use Rattle.table.proofs.Conjunctions.{first-of-two, AllBefore, all-yet, all_here}
+use Rattle.table.proofs.Conjunctions.{first-of-two, all-yet, all_here}
 use Rattle.table.proofs.Pass.{slot-fails, slots-pass}
 use Rattle.table.proofs.Runs.{closed-pass, run-passes}
 use mathlib.Core.Path.{ap}

@@ -1,12 +1,6 @@
-use mathlib.Core.Path.{sym, ◌∙◌}
 use Prim.Native.Nat.{◌-◌, ◌≤◌}
-use native.Mathlib.Omega.{arith}
-use borrow.Author.Rules.{rules}
-use borrow.Author.Tests.{not-false}
 use Rattle.table.specs.OnePass.{slot_checks}
-use Rattle.table.proofs.Conjunctions.{first-of-two, AllBefore, all-yet, all_here}
-use Rattle.table.proofs.Pass.{slot-fails, slots-pass}
-use Rattle.table.proofs.Runs.{closed-pass, run-passes}
+use Rattle.table.proofs.Conjunctions.{AllBefore}
 use Rattle.table.proofs.well_formed.Given as goal
 
 -- The slots before i are well.

@@ -1,5 +1,4 @@
 use Rattle.table.proofs.Pass.{six-zeros}
-use borrow.Author.Rules.{rules}
 use Rattle.table.proofs.zeros.Goals as goal
 
 pub returns : goal.returns

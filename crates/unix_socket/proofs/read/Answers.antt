@@ -1,4 +1,3 @@
-use borrow.Author.Rules.{rules}
 use Rattle.unix_socket.proofs.Entered.{enters, refused-first, then_runs, refused-fills, then-fills}
 use Rattle.unix_socket.proofs.read.Goals as goal
 

@@ -1,4 +1,3 @@
-use borrow.Author.Rules.{rules}
 use Rattle.unix_socket.proofs.Entered.{enters, refused-first, then_runs}
 use Rattle.unix_socket.proofs.readiness.Goals as goal
 

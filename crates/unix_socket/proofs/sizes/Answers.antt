@@ -1,4 +1,3 @@
-use borrow.Author.Rules.{rules}
 use Rattle.unix_socket.proofs.Leasts.{least-refused, in_bounds, least-answered}
 use mathlib.Core.Path.{ap}
 use mathlib.Core.Bool.{not}

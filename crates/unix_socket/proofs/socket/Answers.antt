@@ -1,4 +1,3 @@
-use borrow.Author.Rules.{rules}
 use Rattle.unix_socket.proofs.Entered.{enters, refused-first, then-socket}
 use mir.Facts.{to_z-of_z}
 use Rattle.storage.specs.Rows.{lent}

@@ -1,10 +1,8 @@
 use mathlib.Core.Path.{◌≡◌}
 use mathlib.Core.List.{[]}
 use Prim.Native.Nat.{◌-◌, ◌≤◌}
-use borrow.Author.Rules.{rules}
 use lib.ListN.{length, drop}
 use Rattle.utf8.specs.Syntax.{is_utf8, passes}
-use Rattle.utf8.proofs.Rows.{whole, no, on, end}
 use Rattle.utf8.proofs.is_utf8.Given as goal
 
 -- What is left of the string passes where the whole does.

@@ -1,9 +1,4 @@
-use mathlib.Core.Path.{◌≡◌}
-use mathlib.Core.List.{◌∷◌}
-use Prim.Native.Nat.{◌+◌, ◌-◌, ◌≤◌}
 use borrow.Author.Rules.{rules}
-use lib.ListN.{drop, replicate}
-use Rattle.utf8.specs.Syntax.{passes, octets, tail}
 use Rattle.utf8.proofs.Passing.{cut, too-low, too-high, begun, tail-low, tail-high, on, all}
 use Rattle.utf8.proofs.tails.Goals as goal
 

@@ -1,5 +1,4 @@
 use Rattle.abi.proofs.Sizes.{align-held, align-passed}
-use borrow.Author.Rules.{rules}
 use Rattle.abi.proofs.CmsgHdr.align.Goals as goal
 
 pub returns-then-len : goal.returns-then-len

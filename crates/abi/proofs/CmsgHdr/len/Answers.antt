@@ -1,5 +1,4 @@
 use Rattle.abi.proofs.Sizes.{len-held, len-passed}
-use borrow.Author.Rules.{rules}
 use Rattle.abi.proofs.CmsgHdr.len.Goals as goal
 
 pub returns-then-data_len : goal.returns-then-data_len

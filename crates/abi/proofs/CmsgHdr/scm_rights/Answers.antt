@@ -1,5 +1,4 @@
 use Rattle.abi.proofs.Sizes.{rights-held, rights-passed, rights-many}
-use borrow.Author.Rules.{rules}
 use Rattle.abi.proofs.CmsgHdr.scm_rights.Goals as goal
 
 pub returns-then-fd_count : goal.returns-then-fd_count

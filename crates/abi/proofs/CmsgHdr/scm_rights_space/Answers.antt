@@ -1,5 +1,4 @@
 use Rattle.abi.proofs.Sizes.{rights-space-held, rights-space-passed}
-use borrow.Author.Rules.{rules}
 use Rattle.abi.proofs.CmsgHdr.scm_rights_space.Goals as goal
 
 pub returns-then-fd_count : goal.returns-then-fd_count

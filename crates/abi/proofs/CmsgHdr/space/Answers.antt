@@ -1,5 +1,4 @@
 use Rattle.abi.proofs.Sizes.{space-held, space-passed}
-use borrow.Author.Rules.{rules}
 use Rattle.abi.proofs.CmsgHdr.space.Goals as goal
 
 pub returns-in_default : goal.returns-in_default

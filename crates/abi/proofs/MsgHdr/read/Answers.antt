@@ -1,5 +1,4 @@
 use Rattle.abi.proofs.Headers.{short, read}
-use borrow.Author.Rules.{rules}
 use Rattle.abi.proofs.MsgHdr.read.Goals as goal
 
 pub returns-then-hdr-lt-BYTES : goal.returns-then-hdr-lt-BYTES

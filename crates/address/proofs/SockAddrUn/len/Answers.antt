@@ -1,5 +1,4 @@
 use Rattle.address.proofs.Addresses.{short, long}
-use borrow.Author.Rules.{rules}
 use Rattle.address.proofs.SockAddrUn.len.Goals as goal
 
 pub returns-then-addr-lt-BYTES : goal.returns-then-addr-lt-BYTES

@@ -1,5 +1,4 @@
 use Rattle.address.proofs.Addresses.{no_room, long_path, bad-path, wrote}
-use borrow.Author.Rules.{rules}
 use Rattle.address.proofs.SockAddrUn.new.Goals as goal
 
 -- The family, then the path, then zeros.

@@ -1,5 +1,4 @@
 use Rattle.address.proofs.Addresses.{none, has-family, part_of}
-use borrow.Author.Rules.{rules}
 use Rattle.address.proofs.SockAddrUn.path_of.Goals as goal
 
 pub returns-in_default : goal.returns-in_default

@@ -1,5 +1,4 @@
 use Rattle.inbox.proofs.Parts.{flags-more, flags-all, flags-drop}
-use Rattle.std.proofs.Common.{rules}
 use Rattle.inbox.proofs.AttachedItems.flags.Goals as goal
 
 pub returns-then-m-g : goal.returns-then-m-g

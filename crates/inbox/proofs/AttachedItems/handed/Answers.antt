@@ -1,5 +1,4 @@
 use Rattle.inbox.proofs.Parts.{handed-take, handed-drop}
-use Rattle.std.proofs.Common.{rules}
 use Rattle.inbox.proofs.AttachedItems.handed.Goals as goal
 
 pub returns-in-Take : goal.returns-in-Take

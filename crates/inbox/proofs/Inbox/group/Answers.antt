@@ -1,6 +1,5 @@
-use Rattle.std.proofs.Common.{◌≡◌, ◌+◌, ◌-◌, ◌≤◌, drop, arith, rules}
+use Rattle.std.proofs.Common.{arith, rules}
 use Rattle.inbox.proofs.Parts.{group-goes-on, group-stops, group-ends}
-use Rattle.inbox.specs.View.{distances, front}
 use Rattle.inbox.proofs.Inbox.group.Goals as goal
 
 pub loop-i-init : goal.loop-i-init

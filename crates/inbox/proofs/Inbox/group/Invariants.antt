@@ -1,5 +1,4 @@
-use Rattle.std.proofs.Common.{◌≡◌, ◌+◌, ◌-◌, ◌≤◌, drop, arith, rules}
-use Rattle.inbox.proofs.Parts.{group-goes-on, group-stops, group-ends}
+use Rattle.std.proofs.Common.{◌≡◌, ◌+◌, ◌-◌, ◌≤◌, drop}
 use Rattle.inbox.specs.View.{distances, front}
 use Rattle.inbox.proofs.Inbox.group.Given as goal
 

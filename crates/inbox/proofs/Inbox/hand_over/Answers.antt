@@ -1,5 +1,4 @@
 use Rattle.inbox.proofs.Parts.{handed-over}
-use Rattle.std.proofs.Common.{rules}
 use Rattle.inbox.proofs.Inbox.hand_over.Goals as goal
 
 pub returns : goal.returns

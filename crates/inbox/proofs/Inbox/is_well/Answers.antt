@@ -1,5 +1,4 @@
 use Rattle.inbox.proofs.Parts.{head-out, too-full, first_out, items-out, as-rising}
-use Rattle.std.proofs.Common.{rules}
 use Rattle.inbox.proofs.Inbox.is_well.Goals as goal
 
 pub returns-then-c-self : goal.returns-then-c-self

@@ -1,5 +1,4 @@
 use Rattle.inbox.proofs.Parts.{gone-on}
-use Rattle.std.proofs.Common.{rules}
 use Rattle.inbox.proofs.Inbox.moved_on.Goals as goal
 
 pub returns : goal.returns

@@ -1,6 +1,6 @@
 use Rattle.inbox.specs.View.{count}
 use Rattle.inbox.proofs.Parts.{no_room, no_items, no_bytes, too_many, may-push}
-use Rattle.std.proofs.Common.{arith, rules}
+use Rattle.std.proofs.Common.{arith}
 use Rattle.inbox.proofs.Inbox.push_refusal.Goals as goal
 
 pub returns-then-room-eq0 : goal.returns-then-room-eq0

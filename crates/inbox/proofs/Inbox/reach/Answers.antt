@@ -1,5 +1,4 @@
 use Rattle.inbox.proofs.Parts.{reach-next, reach-end}
-use Rattle.std.proofs.Common.{rules}
 use Rattle.inbox.proofs.Inbox.reach.Goals as goal
 
 pub returns-then-g-self : goal.returns-then-g-self

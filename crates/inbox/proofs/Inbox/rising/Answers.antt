@@ -1,4 +1,4 @@
-use Rattle.std.proofs.Common.{◌≡◌, ℕ, ◌-◌, ◌≤◌, drop, sym, refl, ap, ◌∙◌, arith, rules}
+use Rattle.std.proofs.Common.{ℕ, sym, refl, ap, ◌∙◌, arith, rules}
 use Rattle.inbox.specs.View.{distances}
 use Rattle.inbox.specs.Well.{rises}
 use Rattle.inbox.proofs.Parts.{rises-on, falls, beyond, rises-end}

@@ -1,7 +1,6 @@
-use Rattle.std.proofs.Common.{◌≡◌, ℕ, ◌-◌, ◌≤◌, drop, sym, refl, ap, ◌∙◌, arith, rules}
+use Rattle.std.proofs.Common.{◌≡◌, ◌-◌, ◌≤◌, drop}
 use Rattle.inbox.specs.View.{distances}
 use Rattle.inbox.specs.Well.{rises}
-use Rattle.inbox.proofs.Parts.{rises-on, falls, beyond, rises-end}
 use Rattle.inbox.proofs.Inbox.rising.Given as goal
 
 -- The items before i rise to low; what is left is to rise from there.

@@ -1,5 +1,4 @@
 use Rattle.storage.proofs.Finds.{not_free, free-by-generation}
-use borrow.Author.Rules.{rules}
 use Rattle.storage.proofs.handles.is_free.Goals as goal
 
 pub returns-then-is_occupied : goal.returns-then-is_occupied

@@ -1,6 +1,5 @@
 use Rattle.storage.proofs.Finds.{not_live, open-slot, live-by-state}
 use mathlib.Core.Path.{sym, ◌∙◌}
-use borrow.Author.Tests.{not-false}
 use borrow.Author.Rules.{rules}
 use Rattle.storage.proofs.handles.is_live.Goals as goal
 

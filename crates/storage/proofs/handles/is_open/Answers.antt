@@ -1,6 +1,5 @@
 use Rattle.storage.proofs.Finds.{open-out, open-stale, open-by-state}
 use native.Mathlib.Omega.{arith}
-use borrow.Author.Rules.{rules}
 use Rattle.storage.proofs.handles.is_open.Goals as goal
 
 pub returns-then-n-i : goal.returns-then-n-i

@@ -1,5 +1,4 @@
 use Rattle.storage.proofs.Finds.{waiting-is}
-use borrow.Author.Rules.{rules}
 use Rattle.storage.proofs.handles.is_waiting.Goals as goal
 
 pub returns-in-Connected : goal.returns-in-Connected

@@ -1,9 +1,7 @@
-use Rattle.storage.proofs.Finds.{NoneBefore, none_yet, none_here, found_at, found_none}
+use Rattle.storage.proofs.Finds.{none_yet, none_here, found_at, found_none}
 use mathlib.Core.Path.{sym, ap, ◌∙◌}
-use Prim.Native.Nat.{◌-◌, ◌≤◌}
 use Rattle.storage.specs.Cells.{cell_at}
 use Rattle.storage.specs.Finding.{free_cell}
-use borrow.Author.Rules.{rules}
 use native.Mathlib.Omega.{arith}
 use Rattle.storage.proofs.handles.lowest_free.Goals as goal
 

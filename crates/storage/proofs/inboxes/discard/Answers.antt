@@ -1,5 +1,4 @@
 use Rattle.storage.proofs.Lending.{discards-at}
-use borrow.Author.Rules.{rules}
 use Rattle.storage.proofs.inboxes.discard.Goals as goal
 
 pub returns : goal.returns

@@ -1,5 +1,4 @@
 use Rattle.storage.proofs.Lending.{well-at}
-use borrow.Author.Rules.{rules}
 use Rattle.storage.proofs.inboxes.is_well.Goals as goal
 
 pub returns : goal.returns

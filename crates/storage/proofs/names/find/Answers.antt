@@ -1,10 +1,8 @@
-use Rattle.storage.proofs.Finds.{NoneBefore, none_yet, none_here, found_at, found_none}
+use Rattle.storage.proofs.Finds.{none_yet, none_here, found_at, found_none}
 use mathlib.Core.Path.{sym, ◌∙◌}
-use Prim.Native.Nat.{◌-◌, ◌≤◌}
 use Rattle.storage.specs.Layout.{part, name_base}
 use Rattle.storage.specs.Cells.{cell_at}
 use Rattle.storage.specs.Finding.{holds_cell}
-use borrow.Author.Rules.{rules}
 use native.Mathlib.Omega.{arith}
 use Rattle.storage.proofs.names.find.Goals as goal
 

@@ -1,7 +1,6 @@
 use Rattle.storage.proofs.Finds.{low-tag, high-tag, holds-by-name}
 use Prim.Native.Nat.{◌+◌, ◌*◌}
 use native.Mathlib.Omega.{arith}
-use borrow.Author.Rules.{rules}
 use Rattle.storage.proofs.names.holds.Goals as goal
 
 pub returns-then-tag-lt2 : goal.returns-then-tag-lt2

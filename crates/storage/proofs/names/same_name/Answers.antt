@@ -1,5 +1,4 @@
 use Rattle.storage.proofs.Finds.{same-is, other_length, other-bytes}
-use borrow.Author.Rules.{rules}
 use Rattle.storage.proofs.names.same_name.Goals as goal
 
 pub returns-then-a-b : goal.returns-then-a-b

@@ -1,6 +1,5 @@
 use Rattle.storage.proofs.Strides.{row_before}
 use native.Mathlib.Omega.{arith}
-use borrow.Author.Rules.{rules}
 use Rattle.storage.proofs.queues.entry.Goals as goal
 
 pub overflow_mul-a-2 : goal.overflow_mul-a-2

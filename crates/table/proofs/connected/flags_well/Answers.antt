@@ -1,5 +1,4 @@
 use Rattle.table.proofs.WordByWord.{flags-test}
-use borrow.Author.Rules.{rules}
 use Rattle.table.proofs.connected.flags_well.Goals as goal
 
 pub returns : goal.returns

@@ -1,5 +1,4 @@
 use Rattle.table.proofs.WordByWord.{inbox-words}
-use borrow.Author.Rules.{rules}
 use Rattle.table.proofs.connected.inbox_at.Goals as goal
 
 pub returns : goal.returns

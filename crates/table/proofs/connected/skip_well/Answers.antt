@@ -1,7 +1,5 @@
-use Prim.Native.Nat.{◌-◌}
 use borrow.Author.Rules.{rules}
 use Rattle.storage.specs.Cells.{cell_at}
-use Rattle.table.specs.OnePass.{PassRun}
 use Rattle.table.proofs.Runs.{none_passed, at-another, at-the-end, well-here, at-a-bad-one}
 use mathlib.Core.Path.{ap}
 use mathlib.Core.Bool.{not}

@@ -1,8 +1,5 @@
 use Prim.Native.Nat.{◌-◌}
-use borrow.Author.Rules.{rules}
-use Rattle.storage.specs.Cells.{cell_at}
 use Rattle.table.specs.OnePass.{PassRun}
-use Rattle.table.proofs.Runs.{none_passed, at-another, at-the-end, well-here, at-a-bad-one}
 use Rattle.table.proofs.connected.skip_well.Given as goal
 
 -- The slots from the first on up to i are connected and well.

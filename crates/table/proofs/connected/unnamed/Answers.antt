@@ -1,5 +1,4 @@
 use Rattle.table.proofs.WordByWord.{unnamed-test}
-use borrow.Author.Rules.{rules}
 use Rattle.table.proofs.connected.unnamed.Goals as goal
 
 pub returns : goal.returns

@@ -1,5 +1,4 @@
 use Rattle.table.proofs.Conjunctions.{first-of-two, last-of-two}
-use borrow.Author.Rules.{rules}
 use Rattle.table.proofs.fields.bound_fields.Goals as goal
 
 pub returns-then-not-no_queue : goal.returns-then-not-no_queue

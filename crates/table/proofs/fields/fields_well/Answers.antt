@@ -1,5 +1,4 @@
 use Rattle.table.proofs.OwnNumbers.{fields-closed, fields-unbound, fields-bound, fields-listening, fields-other}
-use borrow.Author.Rules.{rules}
 use Rattle.table.proofs.fields.fields_well.Goals as goal
 
 pub returns-then-cell-eq0 : goal.returns-then-cell-eq0

@@ -1,5 +1,4 @@
 use Rattle.table.proofs.OwnNumbers.{too-old, has-lived, never-lived}
-use borrow.Author.Rules.{rules}
 use Rattle.table.proofs.fields.generation_well.Goals as goal
 
 pub returns-then-cell-gt4294967295 : goal.returns-then-cell-gt4294967295

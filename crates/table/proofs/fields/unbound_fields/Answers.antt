@@ -1,5 +1,4 @@
 use Rattle.table.proofs.Conjunctions.{first-of-three, second-of-three, last-of-three}
-use borrow.Author.Rules.{rules}
 use Rattle.table.proofs.fields.unbound_fields.Goals as goal
 
 pub returns-then-not-no_name : goal.returns-then-not-no_name

@@ -1,8 +1,6 @@
-use mathlib.Core.Path.{ap, ◌∙◌}
 use native.Mathlib.Omega.{arith}
-use lib.ListN.{length, set, length-set}
-use Rattle.table.proofs.Fresh.{cleared, made-long}
-use borrow.Author.Rules.{rules}
+use lib.ListN.{set, length-set}
+use Rattle.table.proofs.Fresh.{cleared}
 use Rattle.table.proofs.make.clear.Goals as goal
 
 pub bounds-words-1 : goal.bounds-words-1

@@ -2,7 +2,6 @@ use native.Mathlib.Omega.{arith}
 use Rattle.storage.specs.Rows.{lent}
 use Rattle.table.proofs.Admitting.{in-range-so, roomy-so}
 use Rattle.table.proofs.Fresh.{make-range, make-short, make-done}
-use borrow.Author.Rules.{rules}
 use mathlib.Core.Path.{ap}
 use mathlib.Core.Bool.{not}
 use Rattle.table.proofs.make.make.Goals as goal

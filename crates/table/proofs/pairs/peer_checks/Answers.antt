@@ -1,7 +1,6 @@
 use mathlib.Core.Path.{refl}
 use Rattle.storage.specs.Cells.{cell_at}
 use Rattle.table.proofs.Peers.{peer-out, peer-zero, peer-self, peer-other, peer-open}
-use borrow.Author.Rules.{rules}
 use Rattle.table.proofs.pairs.peer_checks.Goals as goal
 
 pub returns-then-n-j : goal.returns-then-n-j

@@ -1,6 +1,5 @@
 use Rattle.storage.specs.Cells.{cell_at}
 use Rattle.table.proofs.Peers.{back-other, back-elsewhere, back-flags}
-use borrow.Author.Rules.{rules}
 use Rattle.table.proofs.pairs.points_back.Goals as goal
 
 pub returns-then-tag-ne4 : goal.returns-then-tag-ne4

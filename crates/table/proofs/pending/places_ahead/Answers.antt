@@ -1,5 +1,4 @@
 use Rattle.table.proofs.Servers.{ahead-low, ahead-out, ahead-high}
-use borrow.Author.Rules.{rules}
 use Rattle.table.proofs.pending.places_ahead.Goals as goal
 
 pub returns-then-a-b : goal.returns-then-a-b

@@ -1,5 +1,4 @@
 use Rattle.table.proofs.Servers.{given_out, waits-outside, stands-so}
-use borrow.Author.Rules.{rules}
 use Rattle.table.proofs.pending.server_stands.Goals as goal
 
 pub returns-then-server-eq0 : goal.returns-then-server-eq0

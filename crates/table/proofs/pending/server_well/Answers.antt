@@ -1,5 +1,4 @@
 use mathlib.Core.Path.{sym, ◌∙◌}
-use borrow.Author.Tests.{not-false}
 use Rattle.storage.proofs.Finds.{open-slot}
 use Rattle.table.proofs.Servers.{not-server, server-says}
 use borrow.Author.Rules.{rules}

@@ -1,10 +1,7 @@
 use mathlib.Core.Path.{sym, ◌∙◌}
-use Prim.Native.Nat.{◌-◌, ◌≤◌}
 use native.Mathlib.Omega.{arith}
-use borrow.Author.Tests.{not-true, not-false}
-use Rattle.table.proofs.Conjunctions.{AllBefore, all-yet, all_here}
+use Rattle.table.proofs.Conjunctions.{all-yet, all_here}
 use Rattle.table.proofs.Servers.{entry_well, entry-is, entry-fails, all-entries}
-use borrow.Author.Rules.{rules}
 use Rattle.table.proofs.pending.servers_well.Goals as goal
 
 pub loop-k-init : goal.loop-k-init

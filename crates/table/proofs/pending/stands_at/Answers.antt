@@ -1,5 +1,4 @@
 use Rattle.table.proofs.Servers.{stands-out, stands-behind, stands-closed, stands-unbound, stands-bound, stands-there, stands-connected}
-use borrow.Author.Rules.{rules}
 use Rattle.table.proofs.pending.stands_at.Goals as goal
 
 pub returns-then-n-x : goal.returns-then-n-x

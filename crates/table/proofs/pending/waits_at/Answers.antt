@@ -1,5 +1,4 @@
 use Rattle.table.proofs.Servers.{waits-closed, waits-unbound, waits-bound, waits-listening, waits-elsewhere, waits_there}
-use borrow.Author.Rules.{rules}
 use Rattle.table.proofs.pending.waits_at.Goals as goal
 
 pub returns-then-server-l : goal.returns-then-server-l

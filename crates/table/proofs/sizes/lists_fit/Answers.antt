@@ -1,5 +1,4 @@
 use Rattle.table.proofs.Admitting.{short-wakes, by-releases}
-use borrow.Author.Rules.{rules}
 use Rattle.table.proofs.sizes.lists_fit.Goals as goal
 
 pub returns-then-wakes-least : goal.returns-then-wakes-least

@@ -1,5 +1,4 @@
 use Rattle.table.proofs.Admitting.{short-words, short-bytes, by-tokens}
-use borrow.Author.Rules.{rules}
 use Rattle.table.proofs.sizes.storage_fits.Goals as goal
 
 pub returns-then-words-least : goal.returns-then-words-least
