@@ -2,6 +2,8 @@
 // used up to their last generation and the close of a listener, each with the answer that 01 gives.
 #![tactic(auto)]
 
-fn main() {
-    script::run(true)
+use std::io;
+
+fn main(rt: HostRuntime) -> io::Result<()> {
+    script::run(&rt, true)
 }

@@ -2,6 +2,8 @@
 // answer must be the same.
 #![tactic(auto)]
 
-fn main() {
-    script::run(false)
+use std::io;
+
+fn main(rt: HostRuntime) -> io::Result<()> {
+    script::run(&rt, false)
 }

@@ -3,14 +3,15 @@
 // stands in the script. The first difference ends the run, and so does a line that cannot be read.
 #![tactic(auto)]
 
-ghost use Rattle.std.specs.Prelude.{◌<◌, length};
+ghost use Rattle.std.specs.Prelude.{◌<◌, ◌≤◌, length, IfOk};
 
 pub mod answers;
 pub mod calls;
 pub mod rooms;
 
-use libc::{STDIN_FILENO, STDOUT_FILENO};
 use promise::Answer;
+use std::io;
+use std::io::Read;
 use wording::text;
 
 // Where a run stands: the number of its line, what agreed so far, the table's N (0: none yet) and C,
@@ -29,18 +30,18 @@ pub struct State {
 
 // ── What is said ──
 
-fn say(text: &[u8]) {
-    io::write_all(STDOUT_FILENO, text);
+fn say(rt: &impl Print, text: &[u8]) -> io::Result<()> {
+    rt.write_all(text)
 }
 
-fn say_number(n: u64) {
-    io::print_decimal(STDOUT_FILENO, n);
+fn say_number(rt: &impl Print, n: u64) -> io::Result<()> {
+    print!(rt; "{n}")
 }
 
-fn say_line(state: State) {
-    say(b"line ");
-    say_number(state.line);
-    say(b": ");
+fn say_line(rt: &impl Print, state: State) -> io::Result<()> {
+    say(rt, b"line ")?;
+    say_number(rt, state.line)?;
+    say(rt, b": ")
 }
 
 fn stopped(state: State) -> State {
@@ -49,32 +50,38 @@ fn stopped(state: State) -> State {
     ended
 }
 
-fn unread(state: State, line: &[u8]) -> State {
-    say_line(state);
-    say(b"cannot be read: ");
-    say(line);
-    say(b"\n");
-    stopped(state)
+fn unread(rt: &impl Print, state: State, line: &[u8]) -> io::Result<State> {
+    say_line(rt, state)?;
+    say(rt, b"cannot be read: ")?;
+    say(rt, line)?;
+    say(rt, b"\n")?;
+    Ok(stopped(state))
 }
 
-fn differs(state: State, call: &[u8], stored: &[u8], here: &[u8]) -> State {
-    say_line(state);
-    say(call);
-    say(b"\n  stored: ");
-    say(stored);
-    say(b"\n  here:   ");
-    say(here);
-    say(b"\n");
-    stopped(state)
+fn differs(
+    rt: &impl Print,
+    state: State,
+    call: &[u8],
+    stored: &[u8],
+    here: &[u8],
+) -> io::Result<State> {
+    say_line(rt, state)?;
+    say(rt, call)?;
+    say(rt, b"\n  stored: ")?;
+    say(rt, stored)?;
+    say(rt, b"\n  here:   ")?;
+    say(rt, here)?;
+    say(rt, b"\n")?;
+    Ok(stopped(state))
 }
 
-fn say_totals(state: State) {
-    say_number(state.calls);
-    say(b" calls on ");
-    say_number(state.tables);
-    say(b" tables and ");
-    say_number(state.questions);
-    say(b" questions: agree\n");
+fn say_totals(rt: &impl Print, state: State) -> io::Result<()> {
+    say_number(rt, state.calls)?;
+    say(rt, b" calls on ")?;
+    say_number(rt, state.tables)?;
+    say(rt, b" tables and ")?;
+    say_number(rt, state.questions)?;
+    say(rt, b" questions: agree\n")
 }
 
 // ── Counting ──
@@ -146,48 +153,62 @@ fn readable(kind: usize, call: &[u8], n: usize) -> bool {
 }
 
 // `table N C`: a fresh table.
-fn table_line(state: State, line: &[u8], words: &mut [u64], bytes: &[u8], tokens: &[u32]) -> State {
+fn table_line(
+    rt: &impl Print,
+    state: State,
+    line: &[u8],
+    words: &mut [u64],
+    bytes: &[u8],
+    tokens: &[u32],
+) -> io::Result<State> {
     if !text::fits(line, b"tt") {
-        return unread(state, line);
+        return unread(rt, state, line);
     }
     let n = text::length(text::word(line, 1), 65536);
     let c = text::length(text::word(line, 2), 65536);
     if unix_socket::make(words, bytes, tokens, n, c).number() != 0 {
-        return unread(state, line);
+        return unread(rt, state, line);
     }
-    table_made(state, n, c)
+    Ok(table_made(state, n, c))
 }
 
 // `word K V`: word K of the storage becomes V.
-fn word_line(state: State, line: &[u8], words: &mut [u64]) -> State {
+fn word_line(rt: &impl Print, state: State, line: &[u8], words: &mut [u64]) -> io::Result<State> {
     if !text::fits(line, b"tn") {
-        return unread(state, line);
+        return unread(rt, state, line);
     }
     let k = text::length(text::word(line, 1), 65536);
     if k < words.len() {
         words[k] = text::number(text::word(line, 2));
-        return state;
+        return Ok(state);
     }
-    unread(state, line)
+    unread(rt, state, line)
 }
 
-fn compared(state: State, line: &[u8], here: &[u8]) -> State {
+fn compared(rt: &impl Print, state: State, line: &[u8], here: &[u8]) -> io::Result<State> {
     let stored = text::answer_of(line);
     if check::same(stored, here) {
-        return state;
+        return Ok(state);
     }
-    differs(state, text::call_of(line), stored, here)
+    differs(rt, state, text::call_of(line), stored, here)
 }
 
-fn question_in(state: State, kind: usize, line: &[u8], buf: &mut [u8], out: &mut [u8]) -> State {
+fn question_in(
+    rt: &impl Print,
+    state: State,
+    kind: usize,
+    line: &[u8],
+    buf: &mut [u8],
+    out: &mut [u8],
+) -> io::Result<State> {
     let at = questions::ask(kind, text::call_of(line), buf, out);
-    compared(question_done(state), line, text::first(out, at as u64))
+    compared(rt, question_done(state), line, text::first(out, at as u64))
 }
 
-fn question_line(state: State, kind: usize, line: &[u8]) -> State {
+fn question_line(rt: &impl Print, state: State, kind: usize, line: &[u8]) -> io::Result<State> {
     let mut buf = rooms::buffer();
     let mut out = rooms::buffer();
-    question_in(state, kind, line, &mut buf, &mut out)
+    question_in(rt, state, kind, line, &mut buf, &mut out)
 }
 
 // The whole text, with the readiness of every socket that the caller has.
@@ -213,6 +234,7 @@ fn spelled(
 }
 
 fn shown(
+    rt: &impl Print,
     state: State,
     kind: usize,
     line: &[u8],
@@ -225,16 +247,17 @@ fn shown(
     buf: &[u8],
     items: &[u32],
     held: &mut [u64],
-) -> State {
+) -> io::Result<State> {
     let next = call_done(state, answers::note(held, state.held, kind, line, answer));
     let mut out = rooms::buffer();
     let at = spelled(
         next, kind, answer, words, bytes, tokens, wakes, releases, buf, items, held, &mut out,
     );
-    compared(next, line, text::first(&out, at as u64))
+    compared(rt, next, line, text::first(&out, at as u64))
 }
 
 fn call_made(
+    rt: &impl Print,
     state: State,
     kind: usize,
     line: &[u8],
@@ -246,7 +269,7 @@ fn call_made(
     buf: &mut [u8],
     items: &mut [u32],
     held: &mut [u64],
-) -> State {
+) -> io::Result<State> {
     let answer = calls::ask(
         kind,
         calls::numbers(line),
@@ -261,11 +284,12 @@ fn call_made(
         items,
     );
     shown(
-        state, kind, line, answer, words, bytes, tokens, wakes, releases, buf, items, held,
+        rt, state, kind, line, answer, words, bytes, tokens, wakes, releases, buf, items, held,
     )
 }
 
 fn call_line(
+    rt: &impl Print,
     state: State,
     kind: usize,
     line: &[u8],
@@ -273,7 +297,7 @@ fn call_line(
     bytes: &mut [u8],
     tokens: &mut [u32],
     held: &mut [u64],
-) -> State {
+) -> io::Result<State> {
     let mut wakes = [0u64; 41];
     let mut releases = rooms::tokens();
     let mut buf = rooms::buffer();
@@ -281,6 +305,7 @@ fn call_line(
     let len = calls::prepare(kind, line, &mut buf);
     let count = calls::prepare_items(kind, line, &mut items);
     call_made(
+        rt,
         state,
         kind,
         line,
@@ -296,50 +321,54 @@ fn call_line(
 }
 
 fn asked_line(
+    rt: &impl Print,
     state: State,
     line: &[u8],
     words: &mut [u64],
     bytes: &mut [u8],
     tokens: &mut [u32],
     held: &mut [u64],
-) -> State {
+) -> io::Result<State> {
     let call = text::call_of(line);
     let kind = kind_of(call);
     if !readable(kind, call, state.n) {
-        return unread(state, line);
+        return unread(rt, state, line);
     }
     if kind < CALLS {
-        return call_line(state, kind, line, words, bytes, tokens, held);
+        return call_line(rt, state, kind, line, words, bytes, tokens, held);
     }
-    question_line(state, kind - CALLS, line)
+    question_line(rt, state, kind - CALLS, line)
 }
 
-fn comment_line(line: &[u8], aloud: bool) {
+fn comment_line(rt: &impl Print, line: &[u8], aloud: bool) -> io::Result<()> {
     if aloud {
-        say(line);
-        say(b"\n");
+        say(rt, line)?;
+        say(rt, b"\n")?;
     }
+    Ok(())
 }
 
 fn plain_line(
+    rt: &impl Print,
     state: State,
     line: &[u8],
     words: &mut [u64],
     bytes: &mut [u8],
     tokens: &mut [u32],
     held: &mut [u64],
-) -> State {
+) -> io::Result<State> {
     let word = text::word(line, 0);
     if check::same(word, b"table") {
-        return table_line(state, line, words, bytes, tokens);
+        return table_line(rt, state, line, words, bytes, tokens);
     }
     if check::same(word, b"word") {
-        return word_line(state, line, words);
+        return word_line(rt, state, line, words);
     }
-    asked_line(state, line, words, bytes, tokens, held)
+    asked_line(rt, state, line, words, bytes, tokens, held)
 }
 
 fn one_line(
+    rt: &impl Print,
     state: State,
     line: &[u8],
     aloud: bool,
@@ -347,16 +376,16 @@ fn one_line(
     bytes: &mut [u8],
     tokens: &mut [u32],
     held: &mut [u64],
-) -> State {
+) -> io::Result<State> {
     let next = next_line(state);
     if text::byte(line, 0) == b'#' {
-        comment_line(line, aloud);
-        return next;
+        comment_line(rt, line, aloud)?;
+        return Ok(next);
     }
     if line.len() == 0 {
-        return next;
+        return Ok(next);
     }
-    plain_line(next, line, words, bytes, tokens, held)
+    plain_line(rt, next, line, words, bytes, tokens, held)
 }
 
 // ── The whole script ──
@@ -392,18 +421,20 @@ fn begun() -> State {
 }
 
 fn all_lines(
+    rt: &impl Print,
     script: &[u8],
     aloud: bool,
     words: &mut [u64],
     bytes: &mut [u8],
     tokens: &mut [u32],
     held: &mut [u64],
-) -> State {
+) -> io::Result<State> {
     let mut state = begun();
     let mut at = 0;
     while at < script.len() {
         let end = text::find(script, at, b'\n');
         state = one_line(
+            rt,
             state,
             text::part(script, at, end),
             aloud,
@@ -411,42 +442,59 @@ fn all_lines(
             bytes,
             tokens,
             held,
-        );
+        )?;
         at = start(script, at, end, state.stop);
     }
-    state
+    Ok(state)
 }
 
 // Comments are printed where `aloud`, and at the end the totals. There is room for tables of up to
 // 40 slots of capacity 65,536.
-fn play(script: &[u8], aloud: bool) {
+fn play(rt: &impl Print, script: &[u8], aloud: bool) -> io::Result<()> {
     let mut words = rooms::words();
     let mut bytes = rooms::bytes();
     let mut tokens = rooms::tokens();
     let mut held = [0u64; 64];
     let state = all_lines(
+        rt,
         script,
         aloud,
         &mut words,
         &mut bytes,
         &mut tokens,
         &mut held,
-    );
+    )?;
     if !state.stop {
-        say_totals(state);
+        say_totals(rt, state)?;
     }
+    Ok(())
 }
 
-fn play_whole(script: &[u8], aloud: bool) {
+fn play_whole(rt: &impl Print, script: &[u8], aloud: bool) -> io::Result<()> {
     if script.len() < 1048576 {
-        return play(script, aloud);
+        return play(rt, script, aloud);
     }
-    say(b"the script has more than 1,048,575 bytes\n");
+    say(rt, b"the script has more than 1,048,575 bytes\n")
+}
+
+// Reads until `buf` is full or the input ends, and answers how many bytes stand at its start.
+fn read_full(input: &mut impl Read, buf: &mut [u8]) -> io::Result<usize>
+    ensures { IfOk result (λ n. n ≤ length buf.new) }
+{
+    let mut done = 0;
+    while done < buf.len() {
+        let n = input.read(&mut buf[done..])?;
+        if n == 0 {
+            break;
+        }
+        done += n;
+    }
+    Ok(done)
 }
 
 // Runs the script that stands on standard input.
-pub fn run(aloud: bool) {
+pub fn run(rt: &(impl Input + Print), aloud: bool) -> io::Result<()> {
     let mut script = rooms::script();
-    let n = io::read_full(STDIN_FILENO, &mut script);
-    play_whole(&script[..n], aloud)
+    let n = read_full(&mut rt.reader(), &mut script)?;
+    play_whole(rt, &script[..n], aloud)
 }

@@ -2,27 +2,27 @@
 #![tactic(auto)]
 
 use address::SockAddrUn;
-use libc::STDOUT_FILENO;
+use std::io;
 
-fn say(text: &[u8]) {
-    io::write_all(STDOUT_FILENO, text);
+fn say(rt: &impl Print, text: &[u8]) -> io::Result<()> {
+    rt.write_all(text)
 }
 
-fn say_number(n: u64) {
-    io::print_decimal(STDOUT_FILENO, n);
+fn say_number(rt: &impl Print, n: u64) -> io::Result<()> {
+    print!(rt; "{n}")
 }
 
-fn say_hex(b: u8) {
-    say(b" ");
-    io::print_hex(STDOUT_FILENO, b as u64, 2);
+fn say_hex(rt: &impl Print, b: u8) -> io::Result<()> {
+    print!(rt; " {b:02x}")
 }
 
-fn say_bytes(bytes: &[u8]) {
+fn say_bytes(rt: &impl Print, bytes: &[u8]) -> io::Result<()> {
     let mut i = 0;
     while i < bytes.len() {
-        say_hex(bytes[i]);
+        say_hex(rt, bytes[i])?;
         i += 1;
     }
+    Ok(())
 }
 
 // The first n bytes, or all where there are fewer.
@@ -34,33 +34,36 @@ fn first(bytes: &[u8], n: u64) -> &[u8] {
     bytes
 }
 
-fn read(addr: &[u8]) {
-    say(b"read    ");
-    say_bytes(addr);
+fn read(rt: &impl Print, addr: &[u8]) -> io::Result<()> {
+    say(rt, b"read    ")?;
+    say_bytes(rt, addr)?;
     let no = SockAddrUn::path_refusal(addr).number();
     if no == 0 {
-        say(b"\n        is the path \"");
-        say(SockAddrUn::path_of(addr));
-        say(b"\"\n");
+        say(rt, b"\n        is the path \"")?;
+        say(rt, SockAddrUn::path_of(addr))?;
+        say(rt, b"\"\n")
     } else {
-        say(b"\n        is refused with number ");
-        say_number(no as u64);
-        say(b"\n");
+        say(rt, b"\n        is refused with number ")?;
+        say_number(rt, no as u64)?;
+        say(rt, b"\n")
     }
 }
 
-fn main() {
+fn main(rt: HostRuntime) -> io::Result<()> {
     let mut addr = [0u8; 110];
-    say(b"written \"/run/sampler\": refusal ");
-    say_number(SockAddrUn::new(b"/run/sampler", &mut addr).number() as u64);
-    say(b", address of ");
+    say(&rt, b"written \"/run/sampler\": refusal ")?;
+    say_number(
+        &rt,
+        SockAddrUn::new(b"/run/sampler", &mut addr).number() as u64,
+    )?;
+    say(&rt, b", address of ")?;
     let n = SockAddrUn::len(&addr).value();
-    say_number(n);
-    say(b" bytes\n");
-    read(first(&addr, n));
+    say_number(&rt, n)?;
+    say(&rt, b" bytes\n")?;
+    read(&rt, first(&addr, n))?;
     // another family, no path, no UTF-8, one byte
-    read(b"\x02\0/run/sampler");
-    read(b"\x01\0");
-    read(b"\x01\0/run/\xC0\x80");
-    read(b"\x01");
+    read(&rt, b"\x02\0/run/sampler")?;
+    read(&rt, b"\x01\0")?;
+    read(&rt, b"\x01\0/run/\xC0\x80")?;
+    read(&rt, b"\x01")
 }
