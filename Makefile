@@ -1,6 +1,6 @@
 # make run      an appliance in small: diallers over the proved table, in seconds once the library is proved
-# make test     the gate: the library from C and Rust (make native), then from nothing every crate proved, every must-fail
-#               edit refused, every program run
+# make test     the gate: every crate proved, every must-fail edit refused, every program run (rt ci), and the library from
+#               C and Rust (make native)
 # make native   the library proved, linked and called from C and Rust, and the Rust original beside it
 # make archive  target/native/libeidrovang.a, to be linked with include/eidrovang.h
 # make kernel   the archive for a kernel, in target/native/kernel/: no vector registers, no red zone (docs/HOST.md); then the same tests
@@ -14,8 +14,8 @@
 # is to be had.
 
 SEED ?= 1
-# how many crates or must-fail edits rt takes at a time
-export RT_JOBS ?= $(shell scripts/jobs)
+# --proved from the gate: what rt ci has just proved is not proved again
+PROVED ?=
 ARCHIVE = target/native/libeidrovang.a
 
 .PHONY: run tour test native archive kernel c-test oracle bench edits fmt kit
@@ -26,29 +26,25 @@ run: kit
 	else echo "there is no cargo: the tour of addresses instead of the appliance"; $(MAKE) --no-print-directory tour; fi
 
 tour: kit
-	@echo "proving and building tour (some seconds the first time) .."
-	@mkdir -p target && rt check tour >target/run.log 2>&1 || { tail -n 20 target/run.log; exit 1; }
-	@target/bin/tour
+	@echo "proving and building tour (a minute or two the first time) .."
+	@mkdir -p target && cd crates/tour && rt run 2>../../target/run.log || { tail -n 20 ../../target/run.log; exit 1; }
 
-# What runs before rt ci fails the run by its exit status; the last line is rt's own.
 test: kit
-	@rt fmt --check
-	@$(MAKE) --no-print-directory native
-	@rt ci
+	@.ci/run
 
 native: archive c-test
 	@scripts/oracle-tests
 	@scripts/host-tests
 
 archive: kit
-	@echo "proving the library and building it for this machine (some minutes) .."
-	@scripts/native-archive eidrovang $(ARCHIVE)
+	@echo "proving the library and building it for this machine (minutes, where it is not proved yet) .."
+	@scripts/native-archive $(PROVED) eidrovang $(ARCHIVE)
 
 $(ARCHIVE):
 	@$(MAKE) --no-print-directory archive
 
 kernel: kit
-	@echo "proving the library and building it for a kernel on this machine (some minutes) .."
+	@echo "proving the library and building it for a kernel on this machine (minutes, where it is not proved yet) .."
 	@scripts/native-archive --kernel eidrovang target/native/kernel/libeidrovang.a
 	@$(MAKE) --no-print-directory c-test ARCHIVE=target/native/kernel/libeidrovang.a
 	@EIDROVANG_LIB_DIR=target/native/kernel scripts/host-tests
@@ -72,7 +68,7 @@ edits: kit
 	@scripts/more-edits
 
 fmt: kit
-	@rt fmt
+	@for crate in crates/*; do (cd $$crate && rt fmt) || exit 1; done
 
 kit:
 	@command -v rt >/dev/null || { echo "Rattle's kit is not installed: no command 'rt' on the PATH" >&2; exit 1; }
