@@ -1,18 +1,12 @@
 -- What the checks say to `push` and `take`.
-use mathlib.Core.Path.{◌≡◌, sym, ap, ◌∙◌}
+use mathlib.Core.Path.{◌≡◌, sym, ◌∙◌}
 use mathlib.Core.Bool.{Bool, false, not}
 use mathlib.Core.List.{List}
 use Prim.Native.Nat.{ℕ}
 use borrow.Author.Tests.{not-false}
-use Rattle.words.specs.Numbers.{refusal_of}
-use Rattle.words.specs.declared.Verdict.{Verdict}
-use Rattle.words.specs.declared.Verdict.TheVariants.{Accepted}
 use Rattle.inbox.specs.Well.{is_well, Well}
 use Rattle.inbox.specs.declared.Inbox.{Inbox}
 use Rattle.inbox.proofs.Kept.{well}
 
 pub well-if : (c : ℕ) (places : List ℕ) (q : Inbox) (r : Bool) → r ≡ is_well c places q → not r ≡ false → Well c places q
 well-if c places q r e h = well c places q (sym e ∙ not-false r h)
-
-pub accepted : (r : Verdict) (n : ℕ) → r ≡ Accepted → refusal_of r ≡ n → n ≡ 0
-accepted r n e h = sym h ∙ ap refusal_of e
