@@ -1,0 +1,13 @@
+use borrow.Author.Rules.{rules}
+use Rattle.eidrovang.proofs.Passing.{socket-passed}
+use mir.Facts.{to_z-of_z}
+use Rattle.storage.specs.Rows.{lent}
+use Rattle.promise.specs.Promise.{lists}
+use Rattle.eidrovang.proofs.calls.eid_socket.Goals as goal
+
+pub returns : goal.returns
+returns c =
+    let a = c.args in
+    let f = c.ranges in
+    let d = c.socket in
+    socket-passed a.n a.c (lent a.words.now a.bytes.now a.tokens.now) _ (lists a.wakes.now a.releases.now) _ d.result a.domain a.ty a.protocol _ _ _ (to_z-of_z f.domain) (to_z-of_z f.ty) (to_z-of_z f.protocol) d.ensures
