@@ -1,7 +1,6 @@
--- The returns of the plain calls: what the function below answers, as numbers.
-use mathlib.Core.Path.{◌≡◌, sym, ap, ap₂, ◌∙◌, subst}
+-- The returns of the plain calls that choose among several: what the function below answers, as numbers.
+use mathlib.Core.Path.{◌≡◌, sym, ap, ap₂, ◌∙◌}
 use Prim.Native.Nat.{ℕ}
-use mathlib.Core.List.{List}
 use lib.IntN.{ℤ, pos}
 use mir.Syntax.{w32}
 use mir.Val.{to_z, of_z, SFits}
@@ -19,39 +18,13 @@ use Rattle.abi.specs.declared.How.{How}
 use Rattle.abi.specs.declared.CmsgHdr.{CmsgHdr}
 use Rattle.abi.specs.declared.Made.{Made}
 use Rattle.abi.specs.declared.Count.{Count}
-use Rattle.syscall.specs.Promise.{SendParsed, recv_capacity_of}
-use Rattle.rules.specs.Outcome.{Call}
-use Rattle.storage.specs.Rows.{Store}
-use Rattle.promise.specs.Promise.{Lists, Promise}
-use Rattle.promise.specs.declared.Answer as promise
 use Rattle.eidrovang.specs.declared.plain.EidNumber.{EidNumber}
 use Rattle.eidrovang.specs.declared.plain.EidHeader.{EidHeader}
-use Rattle.eidrovang.specs.Numbers.{numbers, header_numbers, asked, direction_number, how_number, count_number, header_of, Answered}
+use Rattle.eidrovang.specs.Numbers.{numbers, header_numbers, asked, direction_number, how_number, count_number, header_of}
 
 pub both : (a : Answer) (n v : ℕ) → n ≡ answer_no a → v ≡ answer_value a → ◌≡◌ {A = EidNumber} (record { refusal = n; value = v }) (numbers a)
 unfolding numbers
 both a n v e f = rw (e, f)
-
-pub passed : (r : EidNumber) (a b : Answer) → r ≡ numbers a → a ≡ b → r ≡ numbers b
-passed r a b e f = e ∙ ap numbers f
-
--- ── Flags: a signed number goes to the function below as its bits ──
-
-module _ (f : ℤ) (fits : SFits w32 f) (r : EidNumber) (a : Answer) (t : r ≡ numbers a) where
-  pub recv-passed : (n : ℕ) → a ≡ recv_capacity_of (to_z w32 (of_z w32 f)) n → r ≡ numbers (recv_capacity_of f n)
-  recv-passed n e = t ∙ ap numbers (e ∙ ap (λ (z : ℤ). recv_capacity_of z n) (to_z-of_z w32 f fits))
-
-  pub send-passed : (b : List ℕ) (l l' : List ℤ) → SendParsed (to_z w32 (of_z w32 f)) b l l' a → Answered (SendParsed f b l l') r
-  send-passed b l l' h = record { answer = a; holds = subst (λ (z : ℤ). SendParsed z b l l' a) (to_z-of_z w32 f fits) h; told = t }
-
--- ── Signed arguments of table calls ──
-
-module _ (n c : ℕ) (s s' : Store) (l l' : Lists) (r : promise.Answer) where
-  pub socket-passed : (d ty p d' ty' p' : ℤ) → d' ≡ d → ty' ≡ ty → p' ≡ p → Promise (Call.Socket d' ty' p') n c s s' l l' r → Promise (Call.Socket d ty p) n c s s' l l' r
-  socket-passed d ty p d' ty' p' ed et ep h = rw (sym ed, sym et, sym ep) h
-
-  pub shutdown-passed : (h : ℕ) (how how' : ℤ) → how' ≡ how → Promise (Call.Shutdown h how') n c s s' l l' r → Promise (Call.Shutdown h how) n c s s' l l' r
-  shutdown-passed h how how' e k = rw (sym e) k
 
 -- ── Headers ──
 

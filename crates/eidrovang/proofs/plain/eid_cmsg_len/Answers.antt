@@ -1,6 +1,0 @@
-use Rattle.eidrovang.proofs.Passing.{passed}
-use borrow.Author.Rules.{rules}
-use Rattle.eidrovang.proofs.plain.eid_cmsg_len.Goals as goal
-
-pub returns : goal.returns
-returns c = search (passed, rules)
