@@ -1,6 +1,6 @@
 -- "A well-formed table is one yes-or-no definition". Each clause of document 01 and of its close reading, and where it stands:
 --
---   storage numbers match N and C                                        the storage (crate `table`); here `inRange` of the two
+--   storage numbers match N and C                                        the storage (crate `table`); here `in_range` of the two
 --   only bound or listening sockets have names                           by the representation: a `State` of the others has none
 --   no name twice; a name's length is 1 to 255                           `named_well`
 --   connected pairs point at each other or at a socket already closed    `linked_well`
