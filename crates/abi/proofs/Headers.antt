@@ -11,7 +11,7 @@ use lib.ListN.{length}
 use mir.Syntax.{w32}
 use mir.Val.{of_z, SFits}
 use Rattle.words.specs.Integers.{equals}
-use Rattle.words.proofs.Integers.{equals-yes, equals-no}
+use Rattle.words.proofs.Integers.{equals_yes, equals_no}
 use Rattle.words.specs.declared.Errno.TheVariants.{EINVAL, EMSGSIZE, SHORT}
 use Rattle.words.specs.declared.Answer.{Answer}
 use Rattle.le.specs.Le.{le}
@@ -28,39 +28,39 @@ use Rattle.abi.specs.declared.How.{How}
 -- ── scm_rights_count ──
 
 module _ (h : CmsgHdr) (n : ℕ) where
-  pub other-level : (of_z w32 h.cmsg_level ≡ 1 → ⊥) → Count.None ≡ rights_count_of h n
+  pub other_level : (of_z w32 h.cmsg_level ≡ 1 → ⊥) → Count.None ≡ rights_count_of h n
   unfolding rights_count_of
-  other-level e = rw (equals-no h.cmsg_level 1 e)
+  other_level e = rw (equals_no h.cmsg_level 1 e)
 
   module _ (s : SFits w32 h.cmsg_level) (level : of_z w32 h.cmsg_level ≡ 1) where
-    level-is : equals h.cmsg_level 1 ≡ true
-    level-is = equals-yes h.cmsg_level 1 s (omega arith) level
+    level_is : equals h.cmsg_level 1 ≡ true
+    level_is = equals_yes h.cmsg_level 1 s (omega arith) level
 
-    pub other-type : (of_z w32 h.cmsg_type ≡ 1 → ⊥) → Count.None ≡ rights_count_of h n
+    pub other_type : (of_z w32 h.cmsg_type ≡ 1 → ⊥) → Count.None ≡ rights_count_of h n
     unfolding rights_count_of
-    other-type e = rw (level-is, equals-no h.cmsg_type 1 e)
+    other_type e = rw (level_is, equals_no h.cmsg_type 1 e)
 
     module _ (s' : SFits w32 h.cmsg_type) (type : of_z w32 h.cmsg_type ≡ 1) where
-      type-is : equals h.cmsg_type 1 ≡ true
-      type-is = equals-yes h.cmsg_type 1 s' (omega arith) type
+      type_is : equals h.cmsg_type 1 ≡ true
+      type_is = equals_yes h.cmsg_type 1 s' (omega arith) type
 
       pub too_long : n < h.cmsg_len → Count.None ≡ rights_count_of h n
       unfolding rights_count_of
-      too_long e = rw (level-is, type-is, lt-ltb n h.cmsg_len e)
+      too_long e = rw (level_is, type_is, lt-ltb n h.cmsg_len e)
 
       module _ (fits : h.cmsg_len ≤ n) where
         pub too_short : h.cmsg_len < 16 → Count.None ≡ rights_count_of h n
         unfolding rights_count_of
-        too_short e = rw (level-is, type-is, le-ltb n h.cmsg_len fits, lt-ltb h.cmsg_len 16 e)
+        too_short e = rw (level_is, type_is, le-ltb n h.cmsg_len fits, lt-ltb h.cmsg_len 16 e)
 
         module _ (has : 16 ≤ h.cmsg_len) where
-          pub not-whole : ((h.cmsg_len - 16) % 4 ≡ 0 → ⊥) → Count.None ≡ rights_count_of h n
+          pub not_whole : ((h.cmsg_len - 16) % 4 ≡ 0 → ⊥) → Count.None ≡ rights_count_of h n
           unfolding rights_count_of
-          not-whole e = rw (level-is, type-is, le-ltb n h.cmsg_len fits, le-ltb h.cmsg_len 16 has, ne_eqb ((h.cmsg_len - 16) % 4) 0 e)
+          not_whole e = rw (level_is, type_is, le-ltb n h.cmsg_len fits, le-ltb h.cmsg_len 16 has, ne_eqb ((h.cmsg_len - 16) % 4) 0 e)
 
           pub counted : (h.cmsg_len - 16) % 4 ≡ 0 → Count.Of ((h.cmsg_len - 16) / 4) ≡ rights_count_of h n
           unfolding rights_count_of
-          counted e = rw (level-is, type-is, le-ltb n h.cmsg_len fits, le-ltb h.cmsg_len 16 has, eq-eqb ((h.cmsg_len - 16) % 4) 0 e)
+          counted e = rw (level_is, type_is, le-ltb n h.cmsg_len fits, le-ltb h.cmsg_len 16 has, eq-eqb ((h.cmsg_len - 16) % 4) 0 e)
 
 -- ── MsgHdr ──
 
@@ -74,9 +74,9 @@ unfolding message_of
 read b x y z w h p q r s = rw (le-ltb (length b) 56 h, p, q, r, s)
 
 module _ (h : MsgHdr) where
-  pub a-name : (h.msg_name ≡ 0 → ⊥) → Answer.Refused EINVAL ≡ iovec_count_of h
+  pub a_name : (h.msg_name ≡ 0 → ⊥) → Answer.Refused EINVAL ≡ iovec_count_of h
   unfolding iovec_count_of
-  a-name e = rw (ne_eqb h.msg_name 0 e)
+  a_name e = rw (ne_eqb h.msg_name 0 e)
 
   module _ (p : h.msg_name ≡ 0) where
     pub a-length : (h.msg_namelen ≡ 0 → ⊥) → Answer.Refused EINVAL ≡ iovec_count_of h
@@ -92,9 +92,9 @@ module _ (h : MsgHdr) where
       unfolding iovec_count_of
       count e = rw (eq-eqb h.msg_name 0 p, eq-eqb h.msg_namelen 0 q, le-ltb 16 h.msg_iovlen e)
 
-  pub long-control : 80 < h.msg_controllen → Answer.Refused EINVAL ≡ control_len_of h
+  pub long_control : 80 < h.msg_controllen → Answer.Refused EINVAL ≡ control_len_of h
   unfolding control_len_of
-  long-control e = rw (lt-ltb 80 h.msg_controllen e)
+  long_control e = rw (lt-ltb 80 h.msg_controllen e)
 
   pub control : h.msg_controllen ≤ 80 → Answer.Is h.msg_controllen ≡ control_len_of h
   unfolding control_len_of
@@ -103,23 +103,23 @@ module _ (h : MsgHdr) where
 -- ── ShutdownHow ──
 
 module _ (z : ℤ) (s : SFits w32 z) where
-  pub how-read : of_z w32 z ≡ 0 → How.Is ShutdownHow.Read ≡ how_of z
+  pub how_read : of_z w32 z ≡ 0 → How.Is ShutdownHow.Read ≡ how_of z
   unfolding how_of
-  how-read e = rw (equals-yes z 0 s (omega arith) e)
+  how_read e = rw (equals_yes z 0 s (omega arith) e)
 
   module _ (p : of_z w32 z ≡ 0 → ⊥) where
-    pub how-write : of_z w32 z ≡ 1 → How.Is ShutdownHow.Write ≡ how_of z
+    pub how_write : of_z w32 z ≡ 1 → How.Is ShutdownHow.Write ≡ how_of z
     unfolding how_of
-    how-write e = rw (equals-no z 0 p, equals-yes z 1 s (omega arith) e)
+    how_write e = rw (equals_no z 0 p, equals_yes z 1 s (omega arith) e)
 
     module _ (q : of_z w32 z ≡ 1 → ⊥) where
-      pub how-both : of_z w32 z ≡ 2 → How.Is ShutdownHow.Both ≡ how_of z
+      pub how_both : of_z w32 z ≡ 2 → How.Is ShutdownHow.Both ≡ how_of z
       unfolding how_of
-      how-both e = rw (equals-no z 0 p, equals-no z 1 q, equals-yes z 2 s (omega arith) e)
+      how_both e = rw (equals_no z 0 p, equals_no z 1 q, equals_yes z 2 s (omega arith) e)
 
-      pub how-other : (of_z w32 z ≡ 2 → ⊥) → How.Refused EINVAL ≡ how_of z
+      pub how_other : (of_z w32 z ≡ 2 → ⊥) → How.Refused EINVAL ≡ how_of z
       unfolding how_of
-      how-other e = rw (equals-no z 0 p, equals-no z 1 q, equals-no z 2 e)
+      how_other e = rw (equals_no z 0 p, equals_no z 1 q, equals_no z 2 e)
 
 -- ── What a count of descriptors says of its header ──
 
@@ -139,9 +139,9 @@ last : (k m : ℕ) (b : Bool) → Count.Of k ≡ cond b (Count.Of m) Count.None 
 last k m true p = (refl, cc)
 last k m false p = absurd (let z : ◌≡◌ {A = ℕ} 0 1 = cc in omega arith)
 
-pub count-says : (h : CmsgHdr) (n k : ℕ) → Count.Of k ≡ rights_count_of h n → Counted h n k
+pub count_says : (h : CmsgHdr) (n k : ℕ) → Count.Of k ≡ rights_count_of h n → Counted h n k
 unfolding rights_count_of
-count-says h n k p =
+count_says h n k p =
     let a = past k (not (equals h.cmsg_level 1)) _ p in
     let b = past k (not (equals h.cmsg_type 1)) _ a.1 in
     let c = past k (ltb n h.cmsg_len) _ b.1 in

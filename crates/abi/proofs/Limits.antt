@@ -4,6 +4,6 @@ use Rattle.words.specs.declared.Answer.{Answer}
 use Rattle.abi.specs.Size.{first_from, up8, exact, rights_space_of}
 
 -- MAX_CONTROL_BYTES is `scm_rights_space(MAX_SCM_RIGHTS)`
-pub max-control : rights_space_of 16 ≡ Answer.Is 80
+pub max_control : rights_space_of 16 ≡ Answer.Is 80
 unfolding first_from up8 exact rights_space_of
-max-control = refl
+max_control = refl

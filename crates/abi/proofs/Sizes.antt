@@ -21,13 +21,13 @@ counts (suc k) n h =
     (λ e. let z = eqb-true (n % 8) 0 e in omega arith)
     (λ e. let z : n % 8 ≡ 0 → ⊥ = eqb-false (n % 8) 0 e in let so = counts k (n + 1) (omega arith) in omega arith)
 
-pub up8-is : (n : ℕ) → up8 n ≡ (n + 7) / 8 * 8
+pub up8_is : (n : ℕ) → up8 n ≡ (n + 7) / 8 * 8
 unfolding up8
-up8-is n = counts 7 n (omega arith)
+up8_is n = counts 7 n (omega arith)
 
 -- the least multiple of 8 not below n
-pub up8-least : (n : ℕ) → (up8 n % 8 ≡ 0) × (n ≤ up8 n) × ((m : ℕ) → m % 8 ≡ 0 → n ≤ m → up8 n ≤ m)
-up8-least n = let e = up8-is n in (omega arith, omega arith, λ m d h. omega arith)
+pub up8_least : (n : ℕ) → (up8 n % 8 ≡ 0) × (n ≤ up8 n) × ((m : ℕ) → m % 8 ≡ 0 → n ≤ m → up8 n ≤ m)
+up8_least n = let e = up8_is n in (omega arith, omega arith, λ m d h. omega arith)
 
 -- ── Exact or refused ──
 
@@ -58,47 +58,47 @@ beyond n x p = go (ltb n (2 ^ 64)) refl p
 
 -- ── The returns of `CmsgHdr` ──
 
-pub align-held : (n : ℕ) → n ≤ 2 ^ 64 - 8 → Answer.Is ((n + 7) / 8 * 8) ≡ align_of n
+pub align_held : (n : ℕ) → n ≤ 2 ^ 64 - 8 → Answer.Is ((n + 7) / 8 * 8) ≡ align_of n
 unfolding align_of
-align-held n h = rw (up8-is n) (held _ (omega arith))
+align_held n h = rw (up8_is n) (held _ (omega arith))
 
-pub align-passed : (n : ℕ) → 2 ^ 64 - 8 < n → Answer.Refused EINVAL ≡ align_of n
+pub align_passed : (n : ℕ) → 2 ^ 64 - 8 < n → Answer.Refused EINVAL ≡ align_of n
 unfolding align_of
-align-passed n h = passed (up8 n) (omega (arith, up8-is n))
+align_passed n h = passed (up8 n) (omega (arith, up8_is n))
 
-pub len-held : (n : ℕ) → n ≤ 2 ^ 64 - 17 → Answer.Is (16 + n) ≡ len_of n
+pub len_held : (n : ℕ) → n ≤ 2 ^ 64 - 17 → Answer.Is (16 + n) ≡ len_of n
 unfolding len_of
-len-held n h = held (16 + n) (omega arith)
+len_held n h = held (16 + n) (omega arith)
 
-pub len-passed : (n : ℕ) → 2 ^ 64 - 17 < n → Answer.Refused EINVAL ≡ len_of n
+pub len_passed : (n : ℕ) → 2 ^ 64 - 17 < n → Answer.Refused EINVAL ≡ len_of n
 unfolding len_of
-len-passed n h = passed (16 + n) (omega arith)
+len_passed n h = passed (16 + n) (omega arith)
 
 -- the padded data is held: its length decides; and where it is not, the length is not either
-pub space-held : (n m : ℕ) (a r : Answer) → a ≡ align_of n → a ≡ Answer.Is m → r ≡ len_of m → r ≡ space_of n
+pub space_held : (n m : ℕ) (a r : Answer) → a ≡ align_of n → a ≡ Answer.Is m → r ≡ len_of m → r ≡ space_of n
 unfolding align_of len_of space_of
-space-held n m a r p q s = s ∙ ap (λ (k : ℕ). exact (16 + k)) (value (up8 n) m (sym q ∙ p)).0
+space_held n m a r p q s = s ∙ ap (λ (k : ℕ). exact (16 + k)) (value (up8 n) m (sym q ∙ p)).0
 
-pub space-passed : (n : ℕ) (a : Answer) (x : Errno) → a ≡ align_of n → a ≡ Answer.Refused x → Answer.Refused EINVAL ≡ space_of n
+pub space_passed : (n : ℕ) (a : Answer) (x : Errno) → a ≡ align_of n → a ≡ Answer.Refused x → Answer.Refused EINVAL ≡ space_of n
 unfolding align_of space_of
-space-passed n a x p q = let h = beyond (up8 n) x (sym q ∙ p) in passed (16 + up8 n) (omega arith)
+space_passed n a x p q = let h = beyond (up8 n) x (sym q ∙ p) in passed (16 + up8 n) (omega arith)
 
-pub rights-space-held : (k : ℕ) (r : Answer) → r ≡ space_of (4 * k) → r ≡ rights_space_of k
+pub rights_space_held : (k : ℕ) (r : Answer) → r ≡ space_of (4 * k) → r ≡ rights_space_of k
 unfolding space_of rights_space_of
-rights-space-held k r p = p
+rights_space_held k r p = p
 
-pub rights-space-passed : (k : ℕ) → (2 ^ 64 - 1) / 4 < k → Answer.Refused EINVAL ≡ rights_space_of k
+pub rights_space_passed : (k : ℕ) → (2 ^ 64 - 1) / 4 < k → Answer.Refused EINVAL ≡ rights_space_of k
 unfolding rights_space_of
-rights-space-passed k h = passed (16 + up8 (4 * k)) (omega (arith, up8-is (4 * k)))
+rights_space_passed k h = passed (16 + up8 (4 * k)) (omega (arith, up8_is (4 * k)))
 
-pub rights-held : (k n : ℕ) (a : Answer) → a ≡ len_of (4 * k) → a ≡ Answer.Is n → Made.Is (rights n) ≡ rights_of k
+pub rights_held : (k n : ℕ) (a : Answer) → a ≡ len_of (4 * k) → a ≡ Answer.Is n → Made.Is (rights n) ≡ rights_of k
 unfolding len_of rights_of
-rights-held k n a p q = let v = value (16 + 4 * k) n (sym q ∙ p) in rw (v.0, lt-ltb (16 + 4 * k) (2 ^ 64) v.1)
+rights_held k n a p q = let v = value (16 + 4 * k) n (sym q ∙ p) in rw (v.0, lt-ltb (16 + 4 * k) (2 ^ 64) v.1)
 
-pub rights-passed : (k : ℕ) (a : Answer) (x : Errno) → a ≡ len_of (4 * k) → a ≡ Answer.Refused x → Made.Refused EINVAL ≡ rights_of k
+pub rights_passed : (k : ℕ) (a : Answer) (x : Errno) → a ≡ len_of (4 * k) → a ≡ Answer.Refused x → Made.Refused EINVAL ≡ rights_of k
 unfolding len_of rights_of
-rights-passed k a x p q = let h = beyond (16 + 4 * k) x (sym q ∙ p) in rw (le-ltb (16 + 4 * k) (2 ^ 64) h)
+rights_passed k a x p q = let h = beyond (16 + 4 * k) x (sym q ∙ p) in rw (le-ltb (16 + 4 * k) (2 ^ 64) h)
 
-pub rights-many : (k : ℕ) → (2 ^ 64 - 1) / 4 < k → Made.Refused EINVAL ≡ rights_of k
+pub rights_many : (k : ℕ) → (2 ^ 64 - 1) / 4 < k → Made.Refused EINVAL ≡ rights_of k
 unfolding rights_of
-rights-many k h = rw (le-ltb (16 + 4 * k) (2 ^ 64) (omega arith))
+rights_many k h = rw (le-ltb (16 + 4 * k) (2 ^ 64) (omega arith))

@@ -13,7 +13,7 @@ use Rattle.words.specs.declared.Errno.{Errno}
 use Rattle.words.specs.declared.Errno.TheVariants.{EINVAL, EAFNOSUPPORT, ENAMETOOLONG, SHORT}
 use Rattle.words.specs.declared.Verdict.{Verdict}
 use Rattle.words.specs.declared.Answer.{Answer}
-use Rattle.laws.proofs.Lists.{mid-is, put_back}
+use Rattle.laws.proofs.Lists.{mid_is, put_back}
 use Rattle.le.specs.Le.{le, bytes}
 use Rattle.utf8.specs.Syntax.{is_utf8}
 use Rattle.address.specs.Address.{up_to_zero, ZeroFrom, Address, named, address_of, path_in, refusal_in, new_of, written, after_new, Wrote, length_of}
@@ -21,32 +21,32 @@ use Rattle.address.proofs.Zeros.{front}
 
 -- ── What a path says ──
 
-named-empty : (p : List ℕ) → length p ≡ 0 → named p ≡ Address.refused EINVAL
+named_empty : (p : List ℕ) → length p ≡ 0 → named p ≡ Address.refused EINVAL
 unfolding named
-named-empty [] e = refl
-named-empty (b ∷ p) e = absurd (omega arith)
+named_empty [] e = refl
+named_empty (b ∷ p) e = absurd (omega arith)
 
-named-bad : (p : List ℕ) → is_utf8 p ≡ false → named p ≡ Address.refused EINVAL
+named_bad : (p : List ℕ) → is_utf8 p ≡ false → named p ≡ Address.refused EINVAL
 unfolding named
-named-bad [] e = refl
-named-bad (b ∷ p) e = rw e
+named_bad [] e = refl
+named_bad (b ∷ p) e = rw e
 
-pub named-good : (p : List ℕ) → (length p ≡ 0 → ⊥) → is_utf8 p ≡ true → named p ≡ Address.path p
+pub named_good : (p : List ℕ) → (length p ≡ 0 → ⊥) → is_utf8 p ≡ true → named p ≡ Address.path p
 unfolding named
-named-good [] n e = absurd (n refl)
-named-good (b ∷ p) n e = rw e
+named_good [] n e = absurd (n refl)
+named_good (b ∷ p) n e = rw e
 
 -- ── path_refusal ──
 
 module _ (a : List ℕ) where
-  pub under-two : length a < 2 → Verdict.Refused EINVAL ≡ refusal_in (address_of a)
+  pub under_two : length a < 2 → Verdict.Refused EINVAL ≡ refusal_in (address_of a)
   unfolding address_of refusal_in
-  under-two h = rw (lt-ltb (length a) 2 h)
+  under_two h = rw (lt-ltb (length a) 2 h)
 
   module _ (h : 2 ≤ length a) (f : ℕ) (is : f ≡ le 2 a 0) where
-    pub other-family : (f ≡ 1 → ⊥) → Verdict.Refused EAFNOSUPPORT ≡ refusal_in (address_of a)
+    pub other_family : (f ≡ 1 → ⊥) → Verdict.Refused EAFNOSUPPORT ≡ refusal_in (address_of a)
     unfolding address_of refusal_in
-    other-family e = rw (le-ltb (length a) 2 h, ne_eqb (le 2 a 0) 1 (λ q. e (is ∙ q)))
+    other_family e = rw (le-ltb (length a) 2 h, ne_eqb (le 2 a 0) 1 (λ q. e (is ∙ q)))
 
     module _ (unix : f ≡ 1) (e : ℕ) (end : ZeroFrom a 2 e) where
       -- an address of this family says what its path says
@@ -54,9 +54,9 @@ module _ (a : List ℕ) where
       unfolding address_of
       says = rw (le-ltb (length a) 2 h, eq-eqb (le 2 a 0) 1 (sym is ∙ unix))
 
-      pub no-path : e ≡ 2 → Verdict.Refused EINVAL ≡ refusal_in (address_of a)
+      pub no_path : e ≡ 2 → Verdict.Refused EINVAL ≡ refusal_in (address_of a)
       unfolding refusal_in
-      no-path z = rw (says, named-empty (up_to_zero (drop 2 a)) (omega arith))
+      no_path z = rw (says, named_empty (up_to_zero (drop 2 a)) (omega arith))
 
       -- the part that is tested
       part : take (e - 2) (drop 2 a) ≡ up_to_zero (drop 2 a)
@@ -65,11 +65,11 @@ module _ (a : List ℕ) where
       module _ (b : Bool) (test : b ≡ is_utf8 (take (e - 2) (drop 2 a))) where
         pub bad : not b ≡ true → Verdict.Refused EINVAL ≡ refusal_in (address_of a)
         unfolding refusal_in
-        bad n = rw (says, named-bad (up_to_zero (drop 2 a)) (ap is_utf8 (sym part) ∙ sym test ∙ not-true b n))
+        bad n = rw (says, named_bad (up_to_zero (drop 2 a)) (ap is_utf8 (sym part) ∙ sym test ∙ not-true b n))
 
         pub fine : (e ≡ 2 → ⊥) → not b ≡ false → Verdict.Accepted ≡ refusal_in (address_of a)
         unfolding refusal_in
-        fine z n = rw (says, named-good (up_to_zero (drop 2 a)) (λ q. z (omega arith)) (ap is_utf8 (sym part) ∙ sym test ∙ not-false b n))
+        fine z n = rw (says, named_good (up_to_zero (drop 2 a)) (λ q. z (omega arith)) (ap is_utf8 (sym part) ∙ sym test ∙ not-false b n))
 
 -- ── path_of ──
 
@@ -108,8 +108,8 @@ accepted a p = go (ltb (length a) 2) refl (eqb (le 2 a 0) 1) p
     go false e false r = absurd (let z : ◌≡◌ {A = ℕ} 0 1 = cc in omega arith)
 
 module _ (a : List ℕ) (v : Verdict) (p : v ≡ refusal_in (address_of a)) (q : v ≡ Verdict.Accepted) where
-  pub has-family : 2 ≤ length a
-  has-family = (accepted a (sym q ∙ p)).long
+  pub has_family : 2 ≤ length a
+  has_family = (accepted a (sym q ∙ p)).long
 
   pub part_of : (e : ℕ) → ZeroFrom a 2 e → take (e - 2) (drop 2 a) ≡ path_in (address_of a)
   part_of e end =
@@ -121,23 +121,23 @@ pub record Refused (m : Address) : Type 0 where
   pub why : Errno
   pub is : refusal_in m ≡ Verdict.Refused why
 
-named-refused : (s : List ℕ) → path_in (named s) ≡ [] → Refused (named s)
+named_refused : (s : List ℕ) → path_in (named s) ≡ [] → Refused (named s)
 unfolding named refusal_in path_in
-named-refused [] e = record { why = EINVAL; is = refl }
-named-refused (b ∷ s) e = go (is_utf8 (b ∷ s)) e
+named_refused [] e = record { why = EINVAL; is = refl }
+named_refused (b ∷ s) e = go (is_utf8 (b ∷ s)) e
   where
     go : (d : Bool) → path_in (cond d (Address.path (b ∷ s)) (Address.refused EINVAL)) ≡ [] → Refused (cond d (Address.path (b ∷ s)) (Address.refused EINVAL))
     go true q = absurd (let z : ◌≡◌ {A = ℕ} 0 1 = cc in omega arith)
     go false q = record { why = EINVAL; is = refl }
 
-pub empty-refused : (a : List ℕ) → path_in (address_of a) ≡ [] → Refused (address_of a)
+pub empty_refused : (a : List ℕ) → path_in (address_of a) ≡ [] → Refused (address_of a)
 unfolding address_of refusal_in
-empty-refused a e = go (ltb (length a) 2) (eqb (le 2 a 0) 1) e
+empty_refused a e = go (ltb (length a) 2) (eqb (le 2 a 0) 1) e
   where
     go : (b d : Bool) → path_in (cond b (Address.refused EINVAL) (cond d (named (up_to_zero (drop 2 a))) (Address.refused EAFNOSUPPORT))) ≡ []
         → Refused (cond b (Address.refused EINVAL) (cond d (named (up_to_zero (drop 2 a))) (Address.refused EAFNOSUPPORT)))
     go true d q = record { why = EINVAL; is = refl }
-    go false true q = named-refused (up_to_zero (drop 2 a)) q
+    go false true q = named_refused (up_to_zero (drop 2 a)) q
     go false false q = record { why = EAFNOSUPPORT; is = refl }
 
 -- ── len ──
@@ -167,9 +167,9 @@ module _ (p a : List ℕ) where
     long_path h = refuses ENAMETOOLONG (rw (le-ltb (length a) 110 room, lt-ltb 107 (length p) (omega arith)))
 
     module _ (fits : length p < 108) (b : Bool) (test : b ≡ is_utf8 p) where
-      pub bad-path : not b ≡ true → Wrote p a a (Verdict.Refused EINVAL)
+      pub bad_path : not b ≡ true → Wrote p a a (Verdict.Refused EINVAL)
       unfolding new_of
-      bad-path n = refuses EINVAL (rw (le-ltb (length a) 110 room, le-ltb 107 (length p) (omega arith), ← test, not-true b n))
+      bad_path n = refuses EINVAL (rw (le-ltb (length a) 110 room, le-ltb 107 (length p) (omega arith), ← test, not-true b n))
 
       -- the family, then the path, then zeros
       module _ (good : not b ≡ false) (n : ℕ) (all : n ≡ length p) (l₁ c₁ c₂ : List ℕ)
@@ -182,33 +182,33 @@ module _ (p a : List ℕ) where
         abbrev r : List ℕ
         r = drop (length p) d
 
-        front-is : l₁ ≡ (1 ∷ 0 ∷ []) ++ (d ++ [])
+        front_is : l₁ ≡ (1 ∷ 0 ∷ []) ++ (d ++ [])
         unfolding bytes
-        front-is = family ∙ sets-eq (bytes 2 1) a 0 (omega arith) ∙ ap (λ (l : List ℕ). 1 ∷ 0 ∷ l) (sym (append-nil d))
+        front_is = family ∙ sets-eq (bytes 2 1) a 0 (omega arith) ∙ ap (λ (l : List ℕ). 1 ∷ 0 ∷ l) (sym (append-nil d))
 
-        rest-long : length d ≡ length l₁ - 2
-        rest-long = let e = ap length front-is in let f = length-append d [] in omega arith
+        rest_long : length d ≡ length l₁ - 2
+        rest_long = let e = ap length front_is in let f = length-append d [] in omega arith
 
-        path-is : put_mid 2 (length l₁ - 2) l₁ c₁ ≡ (1 ∷ 0 ∷ p) ++ (take (108 - n) r ++ drop (108 - n) r)
-        path-is =
-            ap (λ (l : List ℕ). put_mid 2 (length l₁ - 2) l c₁) front-is
-            ∙ put_back (1 ∷ 0 ∷ []) d [] 2 (length l₁ - 2) refl rest-long c₁
+        path_is : put_mid 2 (length l₁ - 2) l₁ c₁ ≡ (1 ∷ 0 ∷ p) ++ (take (108 - n) r ++ drop (108 - n) r)
+        path_is =
+            ap (λ (l : List ℕ). put_mid 2 (length l₁ - 2) l c₁) front_is
+            ∙ put_back (1 ∷ 0 ∷ []) d [] 2 (length l₁ - 2) refl rest_long c₁
             ∙ ap (λ (l : List ℕ). 1 ∷ 0 ∷ l)
             (append-nil c₁ ∙ copied
-            ∙ ap₂ (λ (x y : List ℕ). x ++ drop (length p) y) (take-length p) (ap (mid_of 2 (length l₁ - 2)) front-is ∙ mid-is (1 ∷ 0 ∷ []) d [] 2 (length l₁ - 2) refl rest-long)
+            ∙ ap₂ (λ (x y : List ℕ). x ++ drop (length p) y) (take-length p) (ap (mid_of 2 (length l₁ - 2)) front_is ∙ mid_is (1 ∷ 0 ∷ []) d [] 2 (length l₁ - 2) refl rest_long)
             ∙ ap (λ (l : List ℕ). p ++ l) (sym (take-append-drop (108 - n) r)))
 
-        part-long : length (take (108 - n) r) ≡ 110 - (2 + n)
-        part-long = let e = length-take (108 - n) r in let f = length-drop (length p) d in let g = length-drop 2 a in omega arith
+        part_long : length (take (108 - n) r) ≡ 110 - (2 + n)
+        part_long = let e = length-take (108 - n) r in let f = length-drop (length p) d in let g = length-drop 2 a in omega arith
 
         zeros : c₂ ≡ replicate (108 - length p) 0
         zeros =
             let e : 110 - (2 + n) ≡ 108 - length p = omega arith in
             cleared
             ∙ ap (λ (m : ℕ). replicate m 0)
-            (ap (λ (l : List ℕ). length (mid_of (2 + n) (110 - (2 + n)) l)) path-is
-            ∙ ap length (mid-is (1 ∷ 0 ∷ p) (take (108 - n) r) (drop (108 - n) r) (2 + n) (110 - (2 + n)) (omega arith) part-long)
-            ∙ part-long ∙ e)
+            (ap (λ (l : List ℕ). length (mid_of (2 + n) (110 - (2 + n)) l)) path_is
+            ∙ ap length (mid_is (1 ∷ 0 ∷ p) (take (108 - n) r) (drop (108 - n) r) (2 + n) (110 - (2 + n)) (omega arith) part_long)
+            ∙ part_long ∙ e)
 
         beyond : drop (108 - n) r ≡ drop 110 a
         beyond =
@@ -226,8 +226,8 @@ module _ (p a : List ℕ) where
               answer = sym accepts;
               bytes =
                   rw accepts
-                  (ap (λ (l : List ℕ). put_mid (2 + n) (110 - (2 + n)) l c₂) path-is
-                  ∙ put_back (1 ∷ 0 ∷ p) (take (108 - n) r) (drop (108 - n) r) (2 + n) (110 - (2 + n)) (omega arith) part-long c₂
+                  (ap (λ (l : List ℕ). put_mid (2 + n) (110 - (2 + n)) l c₂) path_is
+                  ∙ put_back (1 ∷ 0 ∷ p) (take (108 - n) r) (drop (108 - n) r) (2 + n) (110 - (2 + n)) (omega arith) part_long c₂
                   ∙ ap₂ (λ (x y : List ℕ). 1 ∷ 0 ∷ p ++ (x ++ y)) zeros beyond
                   ∙ ap (λ (l : List ℕ). 1 ∷ 0 ∷ l) (sym (append_assoc p (replicate (108 - length p) 0) (drop 110 a))));
             }

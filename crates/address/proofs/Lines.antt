@@ -26,6 +26,6 @@ lines =
     ∷ record { address = 0x01 ∷ 0x00 ∷ 0xC0 ∷ 0x80 ∷ []; no = 2; shows = [] }
     ∷ []
 
-pub the-lines : All Right lines
+pub the_lines : All Right lines
 unfolding up_to_zero named address_of path_in refusal_in le has starts follow passes is_utf8
-the-lines = ((refl, refl), ((refl, refl), ((refl, refl), ((refl, refl), tt))))
+the_lines = ((refl, refl), ((refl, refl), ((refl, refl), ((refl, refl), tt))))

@@ -7,5 +7,5 @@ use Rattle.laws.proofs.Unique.{unique}
 use Rattle.words.specs.declared.Verdict.{Verdict}
 use Rattle.address.specs.Address.{Wrote}
 
-pub wrote-unique : (p a b c : List ℕ) (r s : Verdict) → Wrote p a b r → Wrote p a c s → (r ≡ s) × (b ≡ c)
-wrote-unique p a b c r s x y = (unique x.answer y.answer, unique x.bytes y.bytes)
+pub wrote_unique : (p a b c : List ℕ) (r s : Verdict) → Wrote p a b r → Wrote p a c s → (r ≡ s) × (b ≡ c)
+wrote_unique p a b c r s x y = (unique x.answer y.answer, unique x.bytes y.bytes)

@@ -12,7 +12,7 @@ use Rattle.words.specs.declared.Answer.{Answer}
 use Rattle.le.specs.Le.{le}
 use Rattle.utf8.specs.Syntax.{is_utf8}
 use Rattle.address.specs.Address.{up_to_zero, Address, named, address_of, written, length_of}
-use Rattle.address.proofs.Addresses.{named-good}
+use Rattle.address.proofs.Addresses.{named_good}
 
 -- no byte of p is zero
 abbrev pub ZeroFree : List ℕ → Type 0
@@ -45,19 +45,19 @@ module _ (p a : List ℕ) (free : ZeroFree p) (some : 1 ≤ length p) (fits : le
         let e : n ≡ length (1 ∷ 0 ∷ p) + (n - (2 + length p)) = omega arith in
         ap (take n) whole ∙ ap (λ (k : ℕ). take k ((1 ∷ 0 ∷ p) ++ zeros)) e ∙ take-append-add (1 ∷ 0 ∷ p) zeros (n - (2 + length p))
 
-    pub part-back : address_of (take n (written p a)) ≡ Address.path p
+    pub part_back : address_of (take n (written p a)) ≡ Address.path p
     unfolding address_of le
-    part-back =
+    part_back =
         let long : 2 ≤ length ((1 ∷ 0 ∷ p) ++ take (n - (2 + length p)) zeros) = omega arith in
         let is : up_to_zero (p ++ take (n - (2 + length p)) zeros) ≡ p =
         ends p (take (n - (2 + length p)) zeros) free ∙ ap (λ (l : List ℕ). p ++ l) (no_more (n - (2 + length p)) (108 - length p) (drop 110 a) (omega arith)) ∙ append-nil p in
-        rw (first, le-ltb _ 2 long) (ap named is ∙ named-good p (λ z. omega arith) good)
+        rw (first, le-ltb _ 2 long) (ap named is ∙ named_good p (λ z. omega arith) good)
 
   pub back : address_of (written p a) ≡ Address.path p
   back =
       let all : take (length (written p a)) (written p a) ≡ written p a = take_all (length (written p a)) (written p a) (omega arith) in
       let long : 2 + length p ≤ length (written p a) = omega (arith, ap length whole, length-append (1 ∷ 0 ∷ p) zeros) in
-      rw (← all) (part-back (length (written p a)) long)
+      rw (← all) (part_back (length (written p a)) long)
 
   -- and its length is the family, the path and its zero
   pub length_back : 110 ≤ length a → length_of (written p a) ≡ Answer.Is (2 + length p + 1)

@@ -19,9 +19,9 @@ pub at_other : (s : List ℕ) (i : ℕ) → i < length s → (get_or s i 0 ≡ 0
 unfolding up_to_zero
 at_other s i h e = rw (drop-cons s i 0 h, ne_eqb (get_or s i 0) 0 e, add-one i)
 
-pub at-end : (s : List ℕ) (i : ℕ) → length s ≤ i → up_to_zero (drop i s) ≡ []
+pub at_end : (s : List ℕ) (i : ℕ) → length s ≤ i → up_to_zero (drop i s) ≡ []
 unfolding up_to_zero
-at-end s i h = rw (drop_of_length-le s h)
+at_end s i h = rw (drop_of_length-le s h)
 
 -- they are the first bytes of the string
 pub front : (s : List ℕ) → take (length (up_to_zero s)) s ≡ up_to_zero s
@@ -39,4 +39,4 @@ module _ (s : List ℕ) (at i : ℕ) (so : at + length (up_to_zero (drop at s)) 
   on h e = let z = ap length (at_other s i h e) in omega arith
 
   pub none : i ≤ length s → length s ≤ i → ZeroFrom s at i
-  none k h = let z = ap length (at-end s i h) in record { place = omega arith; within = k }
+  none k h = let z = ap length (at_end s i h) in record { place = omega arith; within = k }

@@ -16,8 +16,8 @@ use Rattle.table.specs.OnePass.{slot_checks, checks}
 use Rattle.table.proofs.Facts.{Ranged, ranged}
 use Rattle.bench_exports.specs.Checking.{check_no}
 
-pub in-range-so : (n c : ℕ) (p : Bool) → p ≡ in_range n c → not p ≡ false → Ranged n c
-in-range-so n c p ep tp = ranged n c (sym ep ∙ not-false p tp)
+pub in_range_so : (n c : ℕ) (p : Bool) → p ≡ in_range n c → not p ≡ false → Ranged n c
+in_range_so n c p ep tp = ranged n c (sym ep ∙ not-false p tp)
 
 module _ (n c : ℕ) (w b : List ℕ) (p : Bool) (ep : p ≡ in_range n c) (r : ℕ) where
   pub out_of_range : not p ≡ true → r ≡ number_of EINVAL → r ≡ check_no n c w b
@@ -25,13 +25,13 @@ module _ (n c : ℕ) (w b : List ℕ) (p : Bool) (ep : p ≡ in_range n c) (r : 
   out_of_range tp e = e ∙ rw (sym ep ∙ not-true p tp)
 
   module _ (tp : not p ≡ false) (z : Sizes) (ez : z ≡ sizes_of n c) where
-    pub short-words : length w < z.words → r ≡ number_of SHORT → r ≡ check_no n c w b
+    pub short_words : length w < z.words → r ≡ number_of SHORT → r ≡ check_no n c w b
     unfolding check_no admission
-    short-words h e = e ∙ rw (sym ep ∙ not-false p tp, lt-leb (sizes_of n c).words (length w) (rw ez at h))
+    short_words h e = e ∙ rw (sym ep ∙ not-false p tp, lt-leb (sizes_of n c).words (length w) (rw ez at h))
 
-    pub short-bytes : z.words ≤ length w → length b < z.bytes → r ≡ number_of SHORT → r ≡ check_no n c w b
+    pub short_bytes : z.words ≤ length w → length b < z.bytes → r ≡ number_of SHORT → r ≡ check_no n c w b
     unfolding check_no admission
-    short-bytes a h e = e ∙ rw (sym ep ∙ not-false p tp, le-leb (sizes_of n c).words (length w) (rw ez at a), lt-leb (sizes_of n c).bytes (length b) (rw ez at h))
+    short_bytes a h e = e ∙ rw (sym ep ∙ not-false p tp, le-leb (sizes_of n c).words (length w) (rw ez at a), lt-leb (sizes_of n c).bytes (length b) (rw ez at h))
 
     module _ (a : z.words ≤ length w) (h : z.bytes ≤ length b) (d : Bool) (ed : d ≡ header_well n c w && every n (slot_checks n c w b)) where
       pub damaged : not d ≡ true → r ≡ number_of DAMAGED → r ≡ check_no n c w b
@@ -39,7 +39,7 @@ module _ (n c : ℕ) (w b : List ℕ) (p : Bool) (ep : p ≡ in_range n c) (r : 
       damaged td e =
           e ∙ rw (sym ep ∙ not-false p tp, le-leb (sizes_of n c).words (length w) (rw ez at a), le-leb (sizes_of n c).bytes (length b) (rw ez at h), sym ed ∙ not-true d td)
 
-      pub let-pass : not d ≡ false → r ≡ 0 → r ≡ check_no n c w b
+      pub let_pass : not d ≡ false → r ≡ 0 → r ≡ check_no n c w b
       unfolding check_no admission checks
-      let-pass td e =
+      let_pass td e =
           e ∙ rw (sym ep ∙ not-false p tp, le-leb (sizes_of n c).words (length w) (rw ez at a), le-leb (sizes_of n c).bytes (length b) (rw ez at h), sym ed ∙ not-false d td)

@@ -8,5 +8,5 @@ use Rattle.inbox.specs.Well.{is_well, Well}
 use Rattle.inbox.specs.declared.Inbox.{Inbox}
 use Rattle.inbox.proofs.Kept.{well}
 
-pub well-if : (c : ℕ) (places : List ℕ) (q : Inbox) (r : Bool) → r ≡ is_well c places q → not r ≡ false → Well c places q
-well-if c places q r e h = well c places q (sym e ∙ not-false r h)
+pub well_if : (c : ℕ) (places : List ℕ) (q : Inbox) (r : Bool) → r ≡ is_well c places q → not r ≡ false → Well c places q
+well_if c places q r e h = well c places q (sym e ∙ not-false r h)

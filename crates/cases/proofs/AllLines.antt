@@ -31,7 +31,7 @@ all_both (x ∷ a) b p q = (p.0, all_both a b p.1 q)
 pub all_lines : All Holds lines
 all_lines =
     all_both (map Line.OfCall calls.lines) (map Line.OfControl control.lines ++ map Line.OfAddress addresses.lines)
-    (all_map Line.OfCall storage.Holds calls.lines (λ a p. p) storage.the-lines)
+    (all_map Line.OfCall storage.Holds calls.lines (λ a p. p) storage.the_lines)
     (all_both (map Line.OfControl control.lines) (map Line.OfAddress addresses.lines)
-    (all_map Line.OfControl control.Right control.lines (λ a p. p) control.the-lines)
-    (all_map Line.OfAddress addresses.Right addresses.lines (λ a p. p) addresses.the-lines))
+    (all_map Line.OfControl control.Right control.lines (λ a p. p) control.the_lines)
+    (all_map Line.OfAddress addresses.Right addresses.lines (λ a p. p) addresses.the_lines))

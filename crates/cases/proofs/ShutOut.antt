@@ -16,7 +16,7 @@ use Rattle.rules.specs.Run.{run, after}
 use Rattle.rules.specs.Demand.{Still}
 use Rattle.rules.proofs.Frame.{cons-nil}
 use Rattle.rules.proofs.Wf.{peer_of}
-use Rattle.rules.proofs.Lines.{model, h1, h2, socket, root, listener, pair, some_bytes, queued-bytes}
+use Rattle.rules.proofs.Lines.{model, h1, h2, socket, root, listener, pair, some_bytes, queued_bytes}
 use Rattle.rules.proofs.ShutOut.{PeerUnread}
 use Rattle.storage.specs.Layout.{sizes_of}
 use Rattle.storage.specs.Rows.{Store}
@@ -28,8 +28,8 @@ use Rattle.cases.specs.Step.{Request, Result, outcome_of, Allowed}
 use Rattle.cases.specs.Made.{Made}
 use Rattle.cases.specs.Sleeper.{Woken}
 use Rattle.cases.specs.Leads.{buffer_of, items_of, asked, Asks, Called, Leads}
-use Rattle.cases.proofs.WakeUp.{sleeper-in, woken}
-use Rattle.cases.proofs.Following.{Stands, called-done, called-fills, called-next, from-made}
+use Rattle.cases.proofs.WakeUp.{sleeper_in, woken}
+use Rattle.cases.proofs.Following.{Stands, called_done, called_fills, called_next, from_made}
 
 -- what might be answered to a request, and what might be left
 abbrev pub Implementation : Type 0
@@ -85,30 +85,30 @@ lists-fit : (n c w r : ℕ) → (sizes_of n c).wakes ≤ w → (sizes_of n c).re
 unfolding lists_fit
 lists-fit n c w r a b = rw (le-leb (sizes_of n c).wakes w a, le-leb (sizes_of n c).releases r b)
 
-asks-it : (n c : ℕ) (x : Call) → Asks n c x (asked n c x)
-asks-it n c x =
+asks_it : (n c : ℕ) (x : Call) → Asks n c x (asked n c x)
+asks_it n c x =
     record {
       slots = refl;
       capacity = refl;
-      call-is = refl;
+      call_is = refl;
       large =
           lists-fit n c _ _ (le_of_eq (sym (length-replicate {A = ℕ} (sizes_of n c).wakes 0))) (le_of_eq (sym (length-replicate {A = ℕ} (sizes_of n c).releases 0)));
       buffer = length-replicate (buffer_of x) 0;
-      item-list = length-replicate (items_of x) 0;
+      item_list = length-replicate (items_of x) 0;
     }
 
-abbrev one-call : (f : Implementation) (s : Store) (x : Call) → Allowed s (asked 4 8 x) (f s (asked 4 8 x)) → Called 4 8 x s
-one-call f s x a = record { request = asked 4 8 x; result = f s (asked 4 8 x); asks = asks-it 4 8 x; allowed = a }
+abbrev one_call : (f : Implementation) (s : Store) (x : Call) → Allowed s (asked 4 8 x) (f s (asked 4 8 x)) → Called 4 8 x s
+one_call f s x a = record { request = asked 4 8 x; result = f s (asked 4 8 x); asks = asks_it 4 8 x; allowed = a }
 
 -- where these calls end
 abbrev end : Implementation → Store → List Call → Store
 end f s [] = s
 end f s (x ∷ xs) = end f (f s (asked 4 8 x)).store xs
 
-kept-leads : (f : Implementation) (s : Store) (before : List Call) (x : Call) → Keeps f s (before ++ x ∷ [])
+kept_leads : (f : Implementation) (s : Store) (before : List Call) (x : Call) → Keeps f s (before ++ x ∷ [])
     → Leads 4 8 s before (end f s before) × Allowed (end f s before) (asked 4 8 x) (f (end f s before) (asked 4 8 x))
-kept-leads f s [] x k = (refl, k.0)
-kept-leads f s (y ∷ before) x k = let r = kept-leads f (f s (asked 4 8 y)).store before x k.1 in ((one-call f s y k.0, r.0), r.1)
+kept_leads f s [] x k = (refl, k.0)
+kept_leads f s (y ∷ before) x k = let r = kept_leads f (f s (asked 4 8 y)).store before x k.1 in ((one_call f s y k.0, r.0), r.1)
 
 -- the last call at the model's table, with an allowed result
 pub record Last (f : Implementation) (t : Table) (x : Call) : Type 0 where
@@ -124,35 +124,35 @@ at_call f before x no_last =
     record {
       calls = before ++ x ∷ [];
       broken = λ s₀ m k.
-          let r = kept-leads f s₀ before x k in
+          let r = kept_leads f s₀ before x k in
           let s : Store = end f s₀ before in
           let t : Table = after (fresh 4 8) before in
-          let here : Stands 4 8 s t = from-made 4 8 s₀ s before m r.0 in
-          let c : Called 4 8 x s = one-call f s x r.1 in
-          no_last (record { store = s; stands = here; done = called-done 4 8 x s t here c; fills = called-fills 4 8 x s t here c; next = called-next 4 8 x s t here c });
+          let here : Stands 4 8 s t = from_made 4 8 s₀ s before m r.0 in
+          let c : Called 4 8 x s = one_call f s x r.1 in
+          no_last (record { store = s; stands = here; done = called_done 4 8 x s t here c; fills = called_fills 4 8 x s t here c; next = called_next 4 8 x s t here c });
     }
 
 -- ── Each is shut out ──
 
-pub refuses-all-out : (f : Implementation) → RefusesAll f → Breaks f
+pub refuses_all_out : (f : Implementation) → RefusesAll f → Breaks f
 unfolding model
-refuses-all-out f a = at_call f [] socket (λ e. a _ _ e.done.refusal_is)
+refuses_all_out f a = at_call f [] socket (λ e. a _ _ e.done.refusal_is)
 
-pub always-again-out : (f : Implementation) → AlwaysAgain f → Breaks f
+pub always_again_out : (f : Implementation) → AlwaysAgain f → Breaks f
 unfolding model
-always-again-out f a = at_call f [] socket (λ e. let z : ◌≡◌ {A = ℕ} 8 0 = sym (a _ _) ∙ e.done.refusal_is in omega arith)
+always_again_out f a = at_call f [] socket (λ e. let z : ◌≡◌ {A = ℕ} 8 0 = sym (a _ _) ∙ e.done.refusal_is in omega arith)
 
 -- the client has written a byte, and the server reads
-pub moves-nothing-out : (f : Implementation) → MovesNothing f → Breaks f
+pub moves_nothing_out : (f : Implementation) → MovesNothing f → Breaks f
 unfolding model
-moves-nothing-out f a =
-    at_call f (queued-bytes 1) (Call.Read h2 10) (λ e. let z : ◌≡◌ {A = ℕ} 0 1 = ap (λ (l : List ℕ). get_or l 0 0) (sym (a _ _) ∙ e.fills.buffer) in omega arith)
+moves_nothing_out f a =
+    at_call f (queued_bytes 1) (Call.Read h2 10) (λ e. let z : ◌≡◌ {A = ℕ} 0 1 = ap (λ (l : List ℕ). get_or l 0 0) (sym (a _ _) ∙ e.fills.buffer) in omega arith)
 
 -- a second byte is written: it is not there when the server reads
-pub only-claims-out : (f : Implementation) → OnlyClaims f → Breaks f
+pub only_claims_out : (f : Implementation) → OnlyClaims f → Breaks f
 unfolding model peer_of
-only-claims-out f a =
-    at_call f (queued-bytes 1) (Call.Write h1 (some_bytes 1)) λ e.
+only_claims_out f a =
+    at_call f (queued_bytes 1) (Call.Write h1 (some_bytes 1)) λ e.
     let unread : PeerUnread (view 4 8 e.store) h1 h2 =
     subst (λ (t : Table). PeerUnread t h1 h2) (sym e.stands.shows) (record { live = refl; mine = refl; there = refl; holds = cons-nil }) in
     let same = sym e.stands.shows ∙ sym (a.write e.store (asked 4 8 (Call.Write h1 (some_bytes 1))) h1 h2 (some_bytes 1) refl unread) ∙ e.next.shows in
@@ -160,26 +160,26 @@ only-claims-out f a =
     omega arith
 
 -- a write of 1 byte and one of 2
-pub invents-bytes-out : (f : Implementation) → InventsBytes f → Breaks f
+pub invents_bytes_out : (f : Implementation) → InventsBytes f → Breaks f
 unfolding model
-invents-bytes-out f a = go (ℕ_discrete a.count 1)
+invents_bytes_out f a = go (ℕ_discrete a.count 1)
   where
     go : Dec (a.count ≡ 1) → Breaks f
     go (yes n) =
         at_call f pair (Call.Write h1 (some_bytes 2))
-        (λ e. let z : ◌≡◌ {A = ℕ} 1 2 = sym n ∙ sym (a.write _ _ h1 (some_bytes 2) refl e.done.refusal_is) ∙ e.done.value-is in omega arith)
-    go (no n) = at_call f pair (Call.Write h1 (some_bytes 1)) (λ e. n (sym (a.write _ _ h1 (some_bytes 1) refl e.done.refusal_is) ∙ e.done.value-is))
+        (λ e. let z : ◌≡◌ {A = ℕ} 1 2 = sym n ∙ sym (a.write _ _ h1 (some_bytes 2) refl e.done.refusal_is) ∙ e.done.value_is in omega arith)
+    go (no n) = at_call f pair (Call.Write h1 (some_bytes 1)) (λ e. n (sym (a.write _ _ h1 (some_bytes 1) refl e.done.refusal_is) ∙ e.done.value_is))
 
 -- a new socket wakes nobody, a connect two
-pub invents-wakes-out : (f : Implementation) → InventsWakes f → Breaks f
+pub invents_wakes_out : (f : Implementation) → InventsWakes f → Breaks f
 unfolding model
-invents-wakes-out f a = go (ℕ_discrete a.count 0)
+invents_wakes_out f a = go (ℕ_discrete a.count 0)
   where
     go : Dec (a.count ≡ 0) → Breaks f
     go (yes n) =
         at_call f (listener 1 ++ socket ∷ []) (Call.Connect h1 root)
-        (λ e. let z : ◌≡◌ {A = ℕ} 0 2 = sym n ∙ sym (a.wakes _ _ e.done.refusal_is) ∙ e.done.wake-count in omega arith)
-    go (no n) = at_call f [] socket (λ e. n (sym (a.wakes _ _ e.done.refusal_is) ∙ e.done.wake-count))
+        (λ e. let z : ◌≡◌ {A = ℕ} 0 2 = sym n ∙ sym (a.wakes _ _ e.done.refusal_is) ∙ e.done.wake_count in omega arith)
+    go (no n) = at_call f [] socket (λ e. n (sym (a.wakes _ _ e.done.refusal_is) ∙ e.done.wake_count))
 
 -- ── Demand 3 alone ──
 
@@ -189,18 +189,18 @@ NoLostWakeUp f =
     (s : Store) (x q : Request) → (f s x).answer.refusal ≡ 8 → (f (f s q).store x).answer.refusal ≢ 8 → Still (view x.n x.c (f s q).store) x.call → Woken x.call (f s q)
 
 -- it holds of whatever keeps the promise
-pub of-allowed : (f : Implementation) → ((s : Store) (q : Request) → Allowed s q (f s q)) → NoLostWakeUp f
-of-allowed f a s x q b d still =
+pub of_allowed : (f : Implementation) → ((s : Store) (q : Request) → Allowed s q (f s q)) → NoLostWakeUp f
+of_allowed f a s x q b d still =
     let e : (outcome_of s x).no ≡ 8 = sym (a s x).promise.refusal_is ∙ b in
-    let k = admitted x.n x.c s _ _ (sleeper-in x.n x.c s x.lists x.call e) in
+    let k = admitted x.n x.c s _ _ (sleeper_in x.n x.c s x.lists x.call e) in
     woken x.n x.c x.call s (record { lists = x.lists; again = e }) q (f s q) (a s q)
     (record {
       lists = x.lists;
-      large = lists-fit x.n x.c _ _ k.wake-list k.release-list;
+      large = lists-fit x.n x.c _ _ k.wake_list k.release_list;
       otherwise = λ z. d ((a (f s q).store x).promise.refusal_is ∙ z);
     })
     still
 
 -- "demand 3 alone would let it pass": a sleeper that never is to be woken
-pub again-passes : (f : Implementation) → AlwaysAgain f → NoLostWakeUp f
-again-passes f a s x q b d still = absurd (d (a (f s q).store x))
+pub again_passes : (f : Implementation) → AlwaysAgain f → NoLostWakeUp f
+again_passes f a s x q b d still = absurd (d (a (f s q).store x))

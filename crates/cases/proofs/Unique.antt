@@ -21,7 +21,7 @@ use Rattle.promise.proofs.Known.{Known, known}
 use Rattle.cases.specs.Step.{Request, Result, outcome_of, Allowed}
 use Rattle.cases.specs.Excepted.{SameBut}
 use Rattle.cases.proofs.UniqueCells.{Alike}
-use Rattle.cases.proofs.UniqueIndex.{same-but}
+use Rattle.cases.proofs.UniqueIndex.{same_but}
 
 -- the words are a slice of u64. A list of numbers does not say so, so both results are asked for it
 abbrev pub InU64 : Store → Type 0
@@ -37,9 +37,9 @@ pub record Agree (n c : ℕ) (r r' : Result) : Type 0 where
 
 -- ── An accepted call was admitted ──
 
-pub entry-admits : (s : Store) (q : Request) → (outcome_of s q).no ≡ 0 → Admitted q.n q.c s (length q.lists.wakes) (length q.lists.releases)
+pub entry_admits : (s : Store) (q : Request) → (outcome_of s q).no ≡ 0 → Admitted q.n q.c s (length q.lists.wakes) (length q.lists.releases)
 unfolding entry admits refuse_if
-entry-admits s q e =
+entry_admits s q e =
     admitted q.n q.c s (length q.lists.wakes) (length q.lists.releases)
     (elim (dec_eq x 0) [
       | yes z ↦ z
@@ -50,40 +50,40 @@ entry-admits s q e =
     x = admission q.n q.c (storage_fits q.n q.c s && lists_fit q.n q.c (length q.lists.wakes) (length q.lists.releases)) (formed q.n q.c s)
 
 -- the storage after it is well-formed and as large
-pub after-known : {n c : ℕ} {s s' : Store} {x y : ℕ} {o : Outcome} → Admitted n c s x y → Stored n c s s' o → Known n c s'
-after-known {n} {c} {s} {s'} {x} {y} {o} d t =
+pub after_known : {n c : ℕ} {s s' : Store} {x y : ℕ} {o : Outcome} → Admitted n c s x y → Stored n c s s' o → Known n c s'
+after_known {n} {c} {s} {s'} {x} {y} {o} d t =
     let a = t.around in
     let lw = a.words_long in
-    let lb = a.bytes-long in
-    let lt = a.tokens-long in
+    let lb = a.bytes_long in
+    let lt = a.tokens_long in
     let dw = d.words in
     let db = d.bytes in
     let dt = d.tokens in
     let adm : Admitted n c s' x y =
     record {
-      some-slot = d.some-slot;
+      some_slot = d.some_slot;
       few = d.few;
       some_byte = d.some_byte;
       small = d.small;
       words = omega arith;
       bytes = omega arith;
       tokens = omega arith;
-      wake-list = d.wake-list;
-      release-list = d.release-list;
-      is-formed = t.well;
+      wake_list = d.wake_list;
+      release_list = d.release_list;
+      is_formed = t.well;
     } in
     known adm
 
-around-both : {n c : ℕ} {s s₁ s₂ : Store} → Around n c s s₁ → Around n c s s₂ → Around n c s₁ s₂
-around-both a b =
+around_both : {n c : ℕ} {s s₁ s₂ : Store} → Around n c s s₁ → Around n c s s₂ → Around n c s₁ s₂
+around_both a b =
     record {
       words_long = b.words_long ∙ sym a.words_long;
-      bytes-long = b.bytes-long ∙ sym a.bytes-long;
-      tokens-long = b.tokens-long ∙ sym a.tokens-long;
+      bytes_long = b.bytes_long ∙ sym a.bytes_long;
+      tokens_long = b.tokens_long ∙ sym a.tokens_long;
       header = b.header ∙ sym a.header;
-      beyond-words = b.beyond-words ∙ sym a.beyond-words;
-      beyond-bytes = b.beyond-bytes ∙ sym a.beyond-bytes;
-      beyond-tokens = b.beyond-tokens ∙ sym a.beyond-tokens;
+      beyond_words = b.beyond_words ∙ sym a.beyond_words;
+      beyond_bytes = b.beyond_bytes ∙ sym a.beyond_bytes;
+      beyond_tokens = b.beyond_tokens ∙ sym a.beyond_tokens;
     }
 
 -- ── The theorem ──
@@ -93,23 +93,23 @@ module _ (s : Store) (q : Request) (r r' : Result) (low : InU64 r.store) (low' :
   one_answer =
       let p = x.promise in
       let p' = x'.promise in
-      same_answer r.answer r'.answer (p.refusal_is ∙ sym p'.refusal_is) (p.flags-are ∙ sym p'.flags-are) (p.value-is ∙ sym p'.value-is) (p.item_count ∙ sym p'.item_count)
-      (p.wake-count ∙ sym p'.wake-count) (p.release-count ∙ sym p'.release-count)
+      same_answer r.answer r'.answer (p.refusal_is ∙ sym p'.refusal_is) (p.flags_are ∙ sym p'.flags_are) (p.value_is ∙ sym p'.value_is) (p.item_count ∙ sym p'.item_count)
+      (p.wake_count ∙ sym p'.wake_count) (p.release_count ∙ sym p'.release_count)
 
-  one-lists : r.lists ≡ r'.lists
-  one-lists = ap₂ lists (x.promise.wake-list ∙ sym x'.promise.wake-list) (x.promise.release-list ∙ sym x'.promise.release-list)
+  one_lists : r.lists ≡ r'.lists
+  one_lists = ap₂ lists (x.promise.wake_list ∙ sym x'.promise.wake_list) (x.promise.release_list ∙ sym x'.promise.release_list)
 
   pub unique : Agree q.n q.c r r'
   unique =
       elim (dec_eq (outcome_of s q).no 0) [
         | yes z ↦
-            let d = entry-admits s q z in
+            let d = entry_admits s q z in
             let t = x.promise.accepted z in
             let t' = x'.promise.accepted z in
             let a : Alike q.n q.c r.store r'.store =
             record {
-              left = after-known d t;
-              right = after-known d t';
+              left = after_known d t;
+              right = after_known d t';
               shown = t.shows ∙ sym t'.shows;
               numbers = λ i h. t.numbers i h ∙ sym (t'.numbers i h);
               low = low;
@@ -117,23 +117,23 @@ module _ (s : Store) (q : Request) (r r' : Result) (low : InU64 r.store) (low' :
             } in
             record {
               answer = one_answer;
-              lists = one-lists;
+              lists = one_lists;
               buf = x.fills.buffer ∙ sym x'.fills.buffer;
-              items = x.fills.item-list ∙ sym x'.fills.item-list;
-              store = same-but q.n q.c r.store r'.store a (λ i h. t.rooms i h ∙ sym (t'.rooms i h)) (around-both t.around t'.around);
+              items = x.fills.item_list ∙ sym x'.fills.item_list;
+              store = same_but q.n q.c r.store r'.store a (λ i h. t.rooms i h ∙ sym (t'.rooms i h)) (around_both t.around t'.around);
             }
         | no nz ↦
             let e : r.store ≡ r'.store = x.promise.refused nz ∙ sym (x'.promise.refused nz) in
             record {
               answer = one_answer;
-              lists = one-lists;
+              lists = one_lists;
               buf = x.fills.buffer ∙ sym x'.fills.buffer;
-              items = x.fills.item-list ∙ sym x'.fills.item-list;
+              items = x.fills.item_list ∙ sym x'.fills.item_list;
               store =
                   record {
                     words_long = ap (λ (y : Store). length y.words) e;
-                    bytes-long = ap (λ (y : Store). length y.bytes) e;
-                    tokens-long = ap (λ (y : Store). length y.tokens) e;
+                    bytes_long = ap (λ (y : Store). length y.bytes) e;
+                    tokens_long = ap (λ (y : Store). length y.tokens) e;
                     words = λ k _. ap (λ (y : Store). get_or y.words k 0) e;
                     bytes = λ k _. ap (λ (y : Store). get_or y.bytes k 0) e;
                     tokens = λ k _. ap (λ (y : Store). get_or y.tokens k 0) e;

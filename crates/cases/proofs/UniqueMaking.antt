@@ -32,11 +32,11 @@ never-zero Errno.ENAMETOOLONG z = omega arith
 never-zero Errno.SHORT z = omega arith
 never-zero Errno.DAMAGED z = omega arith
 
-pub one-verdict : (v u : Verdict) → refusal_of v ≡ refusal_of u → v ≡ u
-one-verdict Accepted Accepted e = refl
-one-verdict Accepted (Refused y) e = absurd (never-zero y (sym e))
-one-verdict (Refused x) Accepted e = absurd (never-zero x e)
-one-verdict (Refused x) (Refused y) e = ap Refused (one_name x y e)
+pub one_verdict : (v u : Verdict) → refusal_of v ≡ refusal_of u → v ≡ u
+one_verdict Accepted Accepted e = refl
+one_verdict Accepted (Refused y) e = absurd (never-zero y (sym e))
+one_verdict (Refused x) Accepted e = absurd (never-zero x e)
+one_verdict (Refused x) (Refused y) e = ap Refused (one_name x y e)
 
-pub one-making : (n c : ℕ) (s s₁ s₂ : Store) (r₁ r₂ : Verdict) → Makes n c s s₁ r₁ → Makes n c s s₂ r₂ → (r₁ ≡ r₂) × (s₁ ≡ s₂)
-one-making n c s s₁ s₂ r₁ r₂ p q = (one-verdict r₁ r₂ (p.answers ∙ sym q.answers), p.storage ∙ sym q.storage)
+pub one_making : (n c : ℕ) (s s₁ s₂ : Store) (r₁ r₂ : Verdict) → Makes n c s s₁ r₁ → Makes n c s s₂ r₂ → (r₁ ≡ r₂) × (s₁ ≡ s₂)
+one_making n c s s₁ s₂ r₁ r₂ p q = (one_verdict r₁ r₂ (p.answers ∙ sym q.answers), p.storage ∙ sym q.storage)

@@ -9,9 +9,9 @@ use mathlib.Core.List.{List, [], ◌∷◌, ◌++◌}
 use lib.Dec.{leb, eqb}
 use lib.ListN.{length, get_or, replicate}
 use borrow.Author.Tests.{le-leb, lt-leb, eqb-true}
-use Rattle.laws.proofs.Tests.{cond_both, less-or}
+use Rattle.laws.proofs.Tests.{cond_both, less_or}
 use Rattle.ring.specs.Ring.{queued}
-use Rattle.ring.proofs.Queued.{Place, queued-at}
+use Rattle.ring.proofs.Queued.{Place, queued_at}
 use Rattle.inbox.specs.View.{dist, join, groups_of}
 use Rattle.rules.specs.Table.{Group}
 use Rattle.table.specs.Formed.{ahead}
@@ -23,9 +23,9 @@ pub record Ahead (n a j : ℕ) : Type 0 where
   pub far : ahead n a j < n
   pub there : Place n (a + ahead n a j) j
 
-pub ahead-there : (n a j : ℕ) → a < n → j < n → Ahead n a j
+pub ahead_there : (n a j : ℕ) → a < n → j < n → Ahead n a j
 unfolding ahead
-ahead-there n a j ha hj = go (less-or j a)
+ahead_there n a j ha hj = go (less_or j a)
   where
     go : (j < a) ⊎ (a ≤ j) → Ahead n a j
     go (inl h) =
@@ -36,12 +36,12 @@ ahead-there n a j ha hj = go (less-or j a)
         record { far = omega arith; there = record { low = λ l. omega arith; high = λ u. omega arith } }
 
 -- what stands at place j of a ring, among what is queued from h on
-pub ring-at : (r : List ℕ) (c h m j : ℕ) → length r ≡ c → h < c → m ≤ c → j < c → ahead c h j < m → get_or (queued r h m) (ahead c h j) 0 ≡ get_or r j 0
-ring-at r c h m j l hh hm hj ha = queued-at r h (omega arith) m (ahead c h j) j ha (omega arith) (subst (λ (x : ℕ). Place x (h + ahead c h j) j) (sym l) (ahead-there c h j hh hj).there)
+pub ring_at : (r : List ℕ) (c h m j : ℕ) → length r ≡ c → h < c → m ≤ c → j < c → ahead c h j < m → get_or (queued r h m) (ahead c h j) 0 ≡ get_or r j 0
+ring_at r c h m j l hh hm hj ha = queued_at r h (omega arith) m (ahead c h j) j ha (omega arith) (subst (λ (x : ℕ). Place x (h + ahead c h j) j) (sym l) (ahead_there c h j hh hj).there)
 
-pub ring-same : (r r' : List ℕ) (c h m j : ℕ) → length r ≡ c → length r' ≡ c → h < c → m ≤ c → j < c → ahead c h j < m → queued r h m ≡ queued r' h m → get_or r j 0 ≡ get_or r' j 0
-ring-same r r' c h m j l l' hh hm hj ha e =
-    sym (ring-at r c h m j l hh hm hj ha) ∙ ap (λ (x : List ℕ). get_or x (ahead c h j) 0) e ∙ ring-at r' c h m j l' hh hm hj ha
+pub ring_same : (r r' : List ℕ) (c h m j : ℕ) → length r ≡ c → length r' ≡ c → h < c → m ≤ c → j < c → ahead c h j < m → queued r h m ≡ queued r' h m → get_or r j 0 ≡ get_or r' j 0
+ring_same r r' c h m j l l' hh hm hj ha e =
+    sym (ring_at r c h m j l hh hm hj ha) ∙ ap (λ (x : List ℕ). get_or x (ahead c h j) 0) e ∙ ring_at r' c h m j l' hh hm hj ha
 
 -- ── Groups ──
 
@@ -58,19 +58,19 @@ spread_join d t (g ∷ gs) =
     (λ e. ap (λ (x : ℕ). d ∷ (replicate (length g.items) x ++ spread gs)) (sym (eqb-true g.place d e)))
     (λ e. refl)
 
-spread-all : (ds ts : List ℕ) → length ds ≡ length ts → spread (groups_of ds ts) ≡ ds
+spread_all : (ds ts : List ℕ) → length ds ≡ length ts → spread (groups_of ds ts) ≡ ds
 unfolding groups_of spread
-spread-all [] ts e = refl
-spread-all (d ∷ ds) [] e = let z : 1 ≤ 0 = omega arith in absurd (not-suc-le-zero z)
-spread-all (d ∷ ds) (t ∷ ts) e = spread_join d t (groups_of ds ts) ∙ ap (λ (r : List ℕ). d ∷ r) (spread-all ds ts (omega arith))
+spread_all [] ts e = refl
+spread_all (d ∷ ds) [] e = let z : 1 ≤ 0 = omega arith in absurd (not-suc-le-zero z)
+spread_all (d ∷ ds) (t ∷ ts) e = spread_join d t (groups_of ds ts) ∙ ap (λ (r : List ℕ). d ∷ r) (spread_all ds ts (omega arith))
 
-pub same-places : (ds ts ds' ts' : List ℕ) → length ds ≡ length ts → length ds' ≡ length ts' → groups_of ds ts ≡ groups_of ds' ts' → ds ≡ ds'
-same-places ds ts ds' ts' l l' e = sym (spread-all ds ts l) ∙ ap spread e ∙ spread-all ds' ts' l'
+pub same_places : (ds ts ds' ts' : List ℕ) → length ds ≡ length ts → length ds' ≡ length ts' → groups_of ds ts ≡ groups_of ds' ts' → ds ≡ ds'
+same_places ds ts ds' ts' l l' e = sym (spread_all ds ts l) ∙ ap spread e ∙ spread_all ds' ts' l'
 
 -- offsets at one distance from one offset
-pub dist-once : (p p' r : ℕ) → p < 2 ^ 64 → p' < 2 ^ 64 → dist p r ≡ dist p' r → p ≡ p'
+pub dist_once : (p p' r : ℕ) → p < 2 ^ 64 → p' < 2 ^ 64 → dist p r ≡ dist p' r → p ≡ p'
 unfolding dist
-dist-once p p' r h h' e = omega arith
+dist_once p p' r h h' e = omega arith
 
 -- ── Rows of length k, one behind the other ──
 

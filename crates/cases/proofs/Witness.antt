@@ -30,7 +30,7 @@ use Rattle.cases.specs.Step.{Request, Result, outcome_of, Allowed, Reached}
 use Rattle.cases.specs.Made.{Made}
 use Rattle.cases.specs.Sleeper.{Stirs, Asleep}
 use Rattle.cases.specs.Leads.{asked}
-use Rattle.cases.proofs.Reachable.{zeroed, some-made}
+use Rattle.cases.proofs.Reachable.{zeroed, some_made}
 
 -- `unfolding storage` opens all that is said of a storage
 unfoldable storage : Unit {0}
@@ -87,19 +87,19 @@ module _ (n c : ℕ) (s s' : Store) (x : Call) where
       drawn n c 0 o.next true (tab n (λ i. hidden_after n c (hidden_in (state_of (cell_at s.words i))) (at (view n c s) i).state (at o.next i).state))
       (tab n (λ i. room_after (row_at n c s i).room (at (view n c s) i).state (at o.next i).state)) s
 
-  allowed-by : found ≡ wanted → Allowed s (asked n c x) (resulting s (asked n c x) s')
-  allowed-by e =
+  allowed_by : found ≡ wanted → Allowed s (asked n c x) (resulting s (asked n c x) s')
+  allowed_by e =
       record {
         promise =
             record {
               refusal_is = refl;
-              value-is = refl;
-              flags-are = refl;
+              value_is = refl;
+              flags_are = refl;
               item_count = refl;
-              wake-count = refl;
-              release-count = refl;
-              wake-list = refl;
-              release-list = refl;
+              wake_count = refl;
+              release_count = refl;
+              wake_list = refl;
+              release_list = refl;
               accepted = λ z.
                   record {
                     shows = ap (λ (p : Picture). p.table) e;
@@ -109,17 +109,17 @@ module _ (n c : ℕ) (s s' : Store) (x : Call) where
                     around =
                         record {
                           words_long = ap (λ (p : Picture). p.lengths.0) e;
-                          bytes-long = ap (λ (p : Picture). p.lengths.1) e;
-                          tokens-long = ap (λ (p : Picture). p.lengths.2) e;
+                          bytes_long = ap (λ (p : Picture). p.lengths.1) e;
+                          tokens_long = ap (λ (p : Picture). p.lengths.2) e;
                           header = ap (λ (p : Picture). p.header) e;
-                          beyond-words = ap (λ (p : Picture). p.beyond.0) e;
-                          beyond-bytes = ap (λ (p : Picture). p.beyond.1) e;
-                          beyond-tokens = ap (λ (p : Picture). p.beyond.2) e;
+                          beyond_words = ap (λ (p : Picture). p.beyond.0) e;
+                          beyond_bytes = ap (λ (p : Picture). p.beyond.1) e;
+                          beyond_tokens = ap (λ (p : Picture). p.beyond.2) e;
                         };
                   };
               refused = λ z. absurd (z (ap (λ (p : Picture). p.no) e));
             };
-        fills = record { buffer = refl; item-list = refl };
+        fills = record { buffer = refl; item_list = refl };
       }
 
 -- ── The storages, of 3 slots of capacity 1 ──
@@ -150,12 +150,12 @@ reached =
     Reached.then'
     (Reached.then'
     (Reached.then'
-    (Reached.then' Reached.start (asked 3 1 socket) _ (allowed-by 3 1 s₀ s₁ socket refl))
-    (asked 3 1 (Call.Bind h0 root)) _ (allowed-by 3 1 s₁ s₂ (Call.Bind h0 root) refl))
-    (asked 3 1 (Call.Listen h0 0)) _ (allowed-by 3 1 s₂ s₃ (Call.Listen h0 0) refl))
-    (asked 3 1 socket) _ (allowed-by 3 1 s₃ s₄ socket refl)
+    (Reached.then' Reached.start (asked 3 1 socket) _ (allowed_by 3 1 s₀ s₁ socket refl))
+    (asked 3 1 (Call.Bind h0 root)) _ (allowed_by 3 1 s₁ s₂ (Call.Bind h0 root) refl))
+    (asked 3 1 (Call.Listen h0 0)) _ (allowed_by 3 1 s₂ s₃ (Call.Listen h0 0) refl))
+    (asked 3 1 socket) _ (allowed_by 3 1 s₃ s₄ socket refl)
 
--- ── All premises of `no-lost-wake-up` at once ──
+-- ── All premises of `no_lost_wake_up` at once ──
 
 pub record Story : Type 0 where
   pub n : ℕ
@@ -163,7 +163,7 @@ pub record Story : Type 0 where
   pub made_one : Store
   pub store : Store
   pub is_made : Made n c made_one
-  pub is-reached : Reached made_one store
+  pub is_reached : Reached made_one store
   pub sleeper : Call
   pub asleep : Asleep n c sleeper store store
   pub request : Request
@@ -181,13 +181,13 @@ story =
       c = 1;
       made_one = s₀;
       store = s₄;
-      is_made = some-made 3 1 refl;
-      is-reached = reached;
+      is_made = some_made 3 1 refl;
+      is_reached = reached;
       sleeper = Call.Connect h1 root;
       asleep = Asleep.falls (record { lists = (asked 3 1 socket).lists; again = refl });
       request = asked 3 1 (Call.Listen h0 1);
       result = resulting s₄ (asked 3 1 (Call.Listen h0 1)) s₅;
-      allowed = allowed-by 3 1 s₄ s₅ (Call.Listen h0 1) refl;
+      allowed = allowed_by 3 1 s₄ s₅ (Call.Listen h0 1) refl;
       stirs = record { lists = (asked 3 1 socket).lists; large = refl; otherwise = λ z. let y : ◌≡◌ {A = ℕ} 0 8 = z in omega arith };
       still = record { live = refl; unbound = refl };
     }

@@ -67,8 +67,8 @@ excepted n c s Slice.Tokens k = cond (ltb k (sizes_of n c).tokens) (loose_item (
 -- two storages that are the same, index by index, but for the excepted cells
 pub record SameBut (n c : ℕ) (s s' : Store) : Type 0 where
   pub words_long : length s.words ≡ length s'.words
-  pub bytes-long : length s.bytes ≡ length s'.bytes
-  pub tokens-long : length s.tokens ≡ length s'.tokens
+  pub bytes_long : length s.bytes ≡ length s'.bytes
+  pub tokens_long : length s.tokens ≡ length s'.tokens
   pub words : (k : ℕ) → excepted n c s Slice.Words k ≡ false → get_or s.words k 0 ≡ get_or s'.words k 0
   pub bytes : (k : ℕ) → excepted n c s Slice.Bytes k ≡ false → get_or s.bytes k 0 ≡ get_or s'.bytes k 0
   pub tokens : (k : ℕ) → excepted n c s Slice.Tokens k ≡ false → get_or s.tokens k 0 ≡ get_or s'.tokens k 0

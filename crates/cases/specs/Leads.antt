@@ -52,10 +52,10 @@ asked n c x =
 pub record Asks (n c : ℕ) (x : Call) (q : Request) : Type 0 where
   pub slots : q.n ≡ n
   pub capacity : q.c ≡ c
-  pub call-is : q.call ≡ x
+  pub call_is : q.call ≡ x
   pub large : lists_fit n c (length q.lists.wakes) (length q.lists.releases) ≡ true
   pub buffer : length q.buf ≡ buffer_of x
-  pub item-list : length q.items ≡ items_of x
+  pub item_list : length q.items ≡ items_of x
 
 -- such a request at this storage, and a result that the promise allows
 pub record Called (n c : ℕ) (x : Call) (s : Store) : Type 0 where

@@ -159,7 +159,7 @@ seen n c r =
 -- the buffer and the item list that are lent are those that the call speaks of
 pub record Lends (q : Request) : Type 0 where
   pub buffer : length q.buf ≡ buffer_of q.call
-  pub item-list : length q.items ≡ items_of q.call
+  pub item_list : length q.items ≡ items_of q.call
 
 abbrev pub AllLend : {s₀ s : Store} → Reached s₀ s → Type 0
 AllLend Reached.start = Unit {0}

@@ -15,7 +15,7 @@ use Rattle.inbox.specs.Promise.{policy_of, move_on, Takes}
 use Rattle.inbox.specs.declared.AttachedItems.TheVariants.{Take, Drop}
 use Rattle.inbox.specs.declared.Inbox.{Inbox}
 use Rattle.inbox.specs.declared.Taken.{Taken}
-use Rattle.inbox.proofs.Shows.{taken-le, group-le}
+use Rattle.inbox.proofs.Shows.{taken_le, group_le}
 use Rattle.inbox.proofs.Kept.{in-range, none_at_all, take-keeps}
 use Rattle.rules.specs.Table as model
 use Rattle.rules.specs.Table.{Table, slot_of, is_open, become}
@@ -31,71 +31,71 @@ use Rattle.storage.specs.Finding.{open_in, live_in}
 use Rattle.storage.specs.declared.Slot.{Slot}
 use Rattle.storage.specs.declared.State.TheVariants.{Connected}
 use Rattle.storage.specs.declared.Connection.{Connection}
-use Rattle.storage.proofs.Coding.{loaded-generation, loaded-state, loaded_at}
-use Rattle.storage.proofs.Viewed.{open-view}
+use Rattle.storage.proofs.Coding.{loaded_generation, loaded_state, loaded_at}
+use Rattle.storage.proofs.Viewed.{open_view}
 use Rattle.table.specs.Admission.{Admitted}
 use Rattle.promise.specs.Hidden.{hidden_in, inbox_on}
 use Rattle.promise.specs.Answers.{refused_with, accepted_with}
 use Rattle.promise.specs.Promise.{Lists, lists, Stored, Done, Filled}
 use Rattle.promise.specs.declared.Answer.{Answer}
-use Rattle.promise.proofs.Known.{Known, known, refused-done}
-use Rattle.promise.proofs.Changed.{cell-stored, unchanged}
-use Rattle.promise.proofs.Live.{Live, live, live-run, stale-run, state-seen}
+use Rattle.promise.proofs.Known.{Known, known, refused_done}
+use Rattle.promise.proofs.Changed.{cell_stored, unchanged}
+use Rattle.promise.proofs.Live.{Live, live, live_run, stale_run, state_seen}
 use Rattle.promise.proofs.Called.{Unconnected, unconnected}
-use Rattle.promise.proofs.Held.{ring_long, places-long, tokens-long, inbox_in, Sized, sized, Held, held, gone-hidden, placed_same, connected-fit, connected-keeps, connected-put}
+use Rattle.promise.proofs.Held.{ring_long, places_long, tokens_long, inbox_in, Sized, sized, Held, held, gone_hidden, placed_same, connected_fit, connected_keeps, connected_put}
 use Rattle.draining.specs.Parts.{Drains, nothing_queued, Wakes}
 
 -- ── The wake list ──
 
-pub none-woken : (wakes : List ℕ) (h : ℕ) (on : Bool) → not on ≡ true → Wakes wakes wakes h on 0
-none-woken wakes h true e = absurd (true≢false (sym e))
-none-woken wakes h false e = record { list = refl; filled = refl }
+pub none_woken : (wakes : List ℕ) (h : ℕ) (on : Bool) → not on ≡ true → Wakes wakes wakes h on 0
+none_woken wakes h true e = absurd (true≢false (sym e))
+none_woken wakes h false e = record { list = refl; filled = refl }
 
-pub one-woken : (wakes : List ℕ) (h : ℕ) (on : Bool) → not on ≡ false → Wakes wakes (set wakes 0 h) h on 1
-one-woken wakes h true e = record { list = refl; filled = refl }
-one-woken wakes h false e = absurd (true≢false e)
+pub one_woken : (wakes : List ℕ) (h : ℕ) (on : Bool) → not on ≡ false → Wakes wakes (set wakes 0 h) h on 1
+one_woken wakes h true e = record { list = refl; filled = refl }
+one_woken wakes h false e = absurd (true≢false e)
 
 -- ── Nothing queued ──
 
 module _ (x o : Bool) (r : Answer) where
-  pub queued-shut : x ≡ true → r ≡ accepted_with 0 0 → r ≡ nothing_queued x o
-  queued-shut e er = rw e er
+  pub queued_shut : x ≡ true → r ≡ accepted_with 0 0 → r ≡ nothing_queued x o
+  queued_shut e er = rw e er
 
-  pub queued-gone : x ≡ false → not o ≡ true → r ≡ accepted_with 0 0 → r ≡ nothing_queued x o
-  queued-gone e f er = rw (e, f) er
+  pub queued_gone : x ≡ false → not o ≡ true → r ≡ accepted_with 0 0 → r ≡ nothing_queued x o
+  queued_gone e f er = rw (e, f) er
 
-  pub queued-waits : x ≡ false → not o ≡ false → r ≡ refused_with 8 → r ≡ nothing_queued x o
-  queued-waits e f er = rw (e, f) er
+  pub queued_waits : x ≡ false → not o ≡ false → r ≡ refused_with 8 → r ≡ nothing_queued x o
+  queued_waits e f er = rw (e, f) er
 
 -- ── The rule ──
 
 module _ (t : Table) (h size : ℕ) (policy : Policy) (p : ℕ) (i : model.Inbox) (x y : Bool) (q : Inbox) (sz : Sized i q) where
-  pub drain-empty : count q ≡ 0 → x || not (is_open t p) ≡ true → drain t h size policy (model.State.Connected p i x y) ≡ answer t 0 [] []
+  pub drain_empty : count q ≡ 0 → x || not (is_open t p) ≡ true → drain t h size policy (model.State.Connected p i x y) ≡ answer t 0 [] []
   unfolding drain
-  drain-empty z e = rw (none_at_all i.bytes, sz.bytes, z, e) refl
+  drain_empty z e = rw (none_at_all i.bytes, sz.bytes, z, e) refl
 
-  pub drain-waits : count q ≡ 0 → x || not (is_open t p) ≡ false → drain t h size policy (model.State.Connected p i x y) ≡ refuse t 8
+  pub drain_waits : count q ≡ 0 → x || not (is_open t p) ≡ false → drain t h size policy (model.State.Connected p i x y) ≡ refuse t 8
   unfolding drain
-  drain-waits z e = rw (none_at_all i.bytes, sz.bytes, z, e) refl
+  drain_waits z e = rw (none_at_all i.bytes, sz.bytes, z, e) refl
 
-  pub drain-some : count q ≢ 0 → drain t h size policy (model.State.Connected p i x y) ≡ drained t h size policy p i x y
+  pub drain_some : count q ≢ 0 → drain t h size policy (model.State.Connected p i x y) ≡ drained t h size policy p i x y
   unfolding drain
-  drain-some z = rw (none_at_all i.bytes, sz.bytes, ne_eqb (count q) 0 z) refl
+  drain_some z = rw (none_at_all i.bytes, sz.bytes, ne_eqb (count q) 0 z) refl
 
 -- ── A call that leaves the storage ──
 
-lists-kept : (o : Outcome) (buf items : List ℕ) → o.bytes ≡ [] → o.items ≡ [] → Filled o buf buf items items
-lists-kept o buf items e f = record { buffer = rw e refl; item-list = rw f refl }
+lists_kept : (o : Outcome) (buf items : List ℕ) → o.bytes ≡ [] → o.items ≡ [] → Filled o buf buf items items
+lists_kept o buf items e f = record { buffer = rw e refl; item_list = rw f refl }
 
-pub refused-drain : (n c : ℕ) (s : Store) (l : Lists) (r : Answer) (o : Outcome) (e : ℕ) (buf items : List ℕ) → o ≡ refuse (view n c s) e → e ≢ 0 → r ≡ refused_with e
+pub refused_drain : (n c : ℕ) (s : Store) (l : Lists) (r : Answer) (o : Outcome) (e : ℕ) (buf items : List ℕ) → o ≡ refuse (view n c s) e → e ≢ 0 → r ≡ refused_with e
     → Done o n c s s l l r × Filled o buf buf items items
-refused-drain n c s l r o e buf items eo ne er =
-    (refused-done o e n c s l r eo ne er, lists-kept o buf items (ap (λ (x : Outcome). x.bytes) eo) (ap (λ (x : Outcome). x.items) eo))
+refused_drain n c s l r o e buf items eo ne er =
+    (refused_done o e n c s l r eo ne er, lists_kept o buf items (ap (λ (x : Outcome). x.bytes) eo) (ap (λ (x : Outcome). x.items) eo))
 
-accepted-drain : (n c : ℕ) (s : Store) (l : Lists) (r : Answer) (call : Call) (buf items : List ℕ) → Known n c s → run (view n c s) call ≡ answer (view n c s) 0 [] [] → r ≡ accepted_with 0 0
+accepted_drain : (n c : ℕ) (s : Store) (l : Lists) (r : Answer) (call : Call) (buf items : List ℕ) → Known n c s → run (view n c s) call ≡ answer (view n c s) 0 [] [] → r ≡ accepted_with 0 0
     → Done (run (view n c s) call) n c s s l l r × Filled (run (view n c s) call) buf buf items items
-accepted-drain n c s l r call buf items k eo er =
-    (unchanged n c s call 0 l r k eo er, lists-kept _ buf items (ap (λ (x : Outcome). x.bytes) eo) (ap (λ (x : Outcome). x.items) eo))
+accepted_drain n c s l r call buf items k eo er =
+    (unchanged n c s call 0 l r k eo er, lists_kept _ buf items (ap (λ (x : Outcome). x.bytes) eo) (ap (λ (x : Outcome). x.items) eo))
 
 -- ── What the code leaves ──
 
@@ -118,79 +118,79 @@ module _ (n c : ℕ) (w b t : List ℕ) (k : Known n c (lent w b t)) (h : ℕ) (
   lr = ring_long n c s k.roomy (slot_of h) hd.within
 
   lp : length row.places ≡ 256
-  lp = places-long n c s k.roomy (slot_of h) hd.within
+  lp = places_long n c s k.roomy (slot_of h) hd.within
 
   lt : length row.tokens ≡ 256
-  lt = tokens-long n c s k.roomy (slot_of h) hd.within
+  lt = tokens_long n c s k.roomy (slot_of h) hd.within
 
-  well-before : Well (length row.ring) row.places con.inbox
-  well-before = subst (λ (y : ℕ). Well y row.places con.inbox) (sym lr) hd.well
+  well_before : Well (length row.ring) row.places con.inbox
+  well_before = subst (λ (y : ℕ). Well y row.places con.inbox) (sym lr) hd.well
 
-  well-after : Well (length row.ring) row.places tk.inbox
-  well-after = take-keeps _ _ _ buf buf' policy items items' rel rel' con.inbox tk lp lt well-before x
+  well_after : Well (length row.ring) row.places tk.inbox
+  well_after = take-keeps _ _ _ buf buf' policy items items' rel rel' con.inbox tk lp lt well_before x
 
   hidden : hidden_in (Connected (with_inbox con tk.inbox)) ≡ inbox_on c (hidden_in (Connected con)) old new
   hidden =
       let g = length (group old.groups) in
       let nu : tk.inbox ≡ move_on c con.inbox tk.moved g = x.numbers ∙ ap (λ (y : ℕ). move_on y con.inbox tk.moved g) lr in
-      gone-hidden c con (with_inbox con tk.inbox) old new tk.moved g
-      (taken-le row.ring row.places row.tokens con.inbox (length buf) tk.moved well-before lp lt x.moves)
-      (group-le row.places row.tokens con.inbox well-before.first-in well-before.items-in lp lt) hd.sizes nu (sized _ _ _ tk.inbox lp lt (in-range well-after))
+      gone_hidden c con (with_inbox con tk.inbox) old new tk.moved g
+      (taken_le row.ring row.places row.tokens con.inbox (length buf) tk.moved well_before lp lt x.moves)
+      (group_le row.places row.tokens con.inbox well_before.first_in well_before.items-in lp lt) hd.sizes nu (sized _ _ _ tk.inbox lp lt (in-range well_after))
 
-  is-con : state_of row.cell ≡ Connected con
+  is_con : state_of row.cell ≡ Connected con
   unfolding row_at
-  is-con = hd.is-connected
+  is_con = hd.is_connected
 
-  same-gen : (cell_at w (slot_of h)).generation ≡ row.cell.generation
+  same_gen : (cell_at w (slot_of h)).generation ≡ row.cell.generation
   unfolding row_at
-  same-gen = refl
+  same_gen = refl
 
   abbrev out : Outcome
   out = drained (view n c (lent w b t)) h (length buf) policy con.peer.0 old con.inbox_closed con.outbox_closed
 
-  next-is : out.next ≡ become (view n c (lent w b t)) h (model.State.Connected con.peer.0 new con.inbox_closed con.outbox_closed)
+  next_is : out.next ≡ become (view n c (lent w b t)) h (model.State.Connected con.peer.0 new con.inbox_closed con.outbox_closed)
   unfolding drained
-  next-is =
+  next_is =
       ap (λ (i : model.Inbox). become (view n c s) h (model.State.Connected con.peer.0 i con.inbox_closed con.outbox_closed))
       (ap (rest old) (sym x.moves) ∙ sym x.shows)
 
-  drained-at : (w₂ wk wk' : List ℕ) (g : Bool) (z : ℕ) (r : Answer) → w₂ ≡ store_at w (slot_of h) (cell_of (cell_at w (slot_of h)).generation (Connected (with_inbox con tk.inbox)))
+  drained_at : (w₂ wk wk' : List ℕ) (g : Bool) (z : ℕ) (r : Answer) → w₂ ≡ store_at w (slot_of h) (cell_of (cell_at w (slot_of h)).generation (Connected (with_inbox con tk.inbox)))
       → g ≡ is_open (view n c (lent w b t)) con.peer.0 → Wakes wk wk' con.peer.0 g z
       → r ≡ record { refusal = 0; flags = tk.flags; value = tk.moved; items = tk.items; wakes = z; releases = tk.released }
       → Drains n c (lent w b t) (lent w₂ b t) h policy buf buf' items items' (lists wk rel) (lists wk' rel') r
   unfolding drained open_one
-  drained-at w₂ wk wk' g z r ew eg wake er =
+  drained_at w₂ wk wk' g z r ew eg wake er =
       record {
         drains = λ call to.
             let tb : Table = view n c s in
             let o : Outcome = run tb call in
             let eo : o ≡ out =
-            to ∙ ap (drain tb h (length buf) policy) hd.state-is
-            ∙ drain-some tb h (length buf) policy con.peer.0 old con.inbox_closed con.outbox_closed con.inbox hd.sizes ne in
+            to ∙ ap (drain tb h (length buf) policy) hd.state_is
+            ∙ drain_some tb h (length buf) policy con.peer.0 old con.inbox_closed con.outbox_closed con.inbox hd.sizes ne in
             let con' : Connection = with_inbox con tk.inbox in
             let gen : ℕ = (cell_at w (slot_of h)).generation in
             let q : Row = with_cell (cell_of gen (Connected con')) row in
             let st : Stored n c s (lent w₂ b t) o =
-            cell-stored n c s call (slot_of h) (cell_of gen (Connected con')) w₂ k hd.within ew
-            (ap (λ (y : Outcome). y.next) eo ∙ next-is ∙ connected-put row q gen con con' is-con refl refl tb h (slot_of h) refl hd.shown)
-            (connected-fit row q gen con con' is-con refl n c (placed_same con con' refl refl hd.says) (in-range (subst (λ (y : ℕ). Well y row.places tk.inbox) lr well-after)) refl hidden)
-            (connected-keeps row q gen con con' is-con refl refl same-gen refl) in
+            cell_stored n c s call (slot_of h) (cell_of gen (Connected con')) w₂ k hd.within ew
+            (ap (λ (y : Outcome). y.next) eo ∙ next_is ∙ connected_put row q gen con con' is_con refl refl tb h (slot_of h) refl hd.shown)
+            (connected_fit row q gen con con' is_con refl n c (placed_same con con' refl refl hd.says) (in-range (subst (λ (y : ℕ). Well y row.places tk.inbox) lr well_after)) refl hidden)
+            (connected_keeps row q gen con con' is_con refl refl same_gen refl) in
             let woken : cond g (con.peer.0 ∷ []) [] ≡ out.wakes = ap (λ (y : Bool). cond y (con.peer.0 ∷ []) []) eg in (
               record {
                 refusal_is = rw (eo, er) refl;
-                value-is = rw (eo, er) x.moves;
-                flags-are = rw (eo, er) x.flags-are;
-                item_count = rw (eo, er) x.items-are;
-                wake-count = rw (eo, er) (wake.filled ∙ ap length woken);
-                release-count = rw (eo, er) x.released-are;
-                wake-list = rw eo (wake.list ∙ ap (sets wk 0) woken);
-                release-list = rw eo x.releases-it;
+                value_is = rw (eo, er) x.moves;
+                flags_are = rw (eo, er) x.flags_are;
+                item_count = rw (eo, er) x.items_are;
+                wake_count = rw (eo, er) (wake.filled ∙ ap length woken);
+                release_count = rw (eo, er) x.released_are;
+                wake_list = rw eo (wake.list ∙ ap (sets wk 0) woken);
+                release_list = rw eo x.releases_it;
                 accepted = λ y. st;
                 refused = λ y. absurd (y (ap (λ (u : Outcome). u.no) eo));
               },
               record {
                 buffer = rw eo (x.fills ∙ ap (λ (y : ℕ). sets buf 0 (take y old.bytes)) x.moves);
-                item-list = rw eo x.hands;
+                item_list = rw eo x.hands;
               },
             );
       }
@@ -202,39 +202,39 @@ module _ {n c : ℕ} {w b t : List ℕ} {u v : ℕ} (a : Admitted n c (lent w b 
   lv = live n c (lent w b t) h true (sym e) refl
 
   module _ (slot : Slot) (es : slot ≡ loaded_at w i) where
-    pub drains-apart : (policy : Policy) (buf items : List ℕ) (l : Lists) (r : Answer) → Unconnected slot.state → r ≡ refused_with 9
+    pub drains_apart : (policy : Policy) (buf items : List ℕ) (l : Lists) (r : Answer) → Unconnected slot.state → r ≡ refused_with 9
         → Drains n c (lent w b t) (lent w b t) h policy buf buf items items l l r
     unfolding drain
-    drains-apart policy buf items l r k er =
+    drains_apart policy buf items l r k er =
         let tb = view n c (lent w b t) in
         record {
           drains = λ call to.
-              refused-drain n c (lent w b t) l r _ 9 buf items
-              (to ∙ ap (drain tb h (length buf) policy) (state-seen n c (lent w b t) h slot.state lv.within (sym (loaded-state w ei es)))
+              refused_drain n c (lent w b t) l r _ 9 buf items
+              (to ∙ ap (drain tb h (length buf) policy) (state_seen n c (lent w b t) h slot.state lv.within (sym (loaded_state w ei es)))
               ∙ unconnected (λ σ. drain tb h (length buf) policy σ ≡ refuse tb 9) refl (λ m. refl) (λ m d q. refl) (row_at n c (lent w b t) (slot_of h)) (cell_at w (slot_of h)).generation slot.state k)
               (λ z. omega arith) er;
         }
 
     module _ (con : Connection) (ec : slot.state ≡ Connected con) where
-      at-hand : Held n c (lent w b t) h (slot_of h) con
-      at-hand = held n c (lent w b t) h (slot_of h) con (known a) refl lv.opened (sym (loaded-state w ei es) ∙ ec)
+      at_hand : Held n c (lent w b t) h (slot_of h) con
+      at_hand = held n c (lent w b t) h (slot_of h) con (known a) refl lv.opened (sym (loaded_state w ei es) ∙ ec)
 
       pub take-asked : ((i < n) × Roomy n c (lent w b t) × (256 ≤ v)) × Well c (part (places_base n i) 256 w) con.inbox
       unfolding row_at
-      take-asked = (((let y = lv.within in omega arith), (known a).roomy, let y = a.release-list in let z = a.some-slot in omega arith), subst (λ (j : ℕ). Well c (part (places_base n j) 256 w) con.inbox) (sym ei) at-hand.well)
+      take-asked = (((let y = lv.within in omega arith), (known a).roomy, let y = a.release_list in let z = a.some_slot in omega arith), subst (λ (j : ℕ). Well c (part (places_base n j) 256 w) con.inbox) (sym ei) at_hand.well)
 
       module _ (g : Bool) (eg : g ≡ open_in n w con.peer.0) (q : ℕ) (eq : q ≡ count con.inbox) (policy : Policy) (buf items : List ℕ) where
         gone : is_open (view n c (lent w b t)) con.peer.0 ≡ g
-        gone = sym (open-view n c (lent w b t) con.peer.0) ∙ sym eg
+        gone = sym (open_view n c (lent w b t) con.peer.0) ∙ sym eg
 
         module _ (l : Lists) (r : Answer) (z : q ≡ 0) where
           none_left : con.inbox_closed || not g ≡ true → r ≡ accepted_with 0 0 → Drains n c (lent w b t) (lent w b t) h policy buf buf items items l l r
           none_left d er =
               record {
                 drains = λ call to.
-                    accepted-drain n c (lent w b t) l r call buf items (known a)
-                    (to ∙ ap (drain (view n c (lent w b t)) h (length buf) policy) at-hand.state-is
-                    ∙ drain-empty (view n c (lent w b t)) h (length buf) policy con.peer.0 _ con.inbox_closed con.outbox_closed con.inbox at-hand.sizes (sym eq ∙ z) (rw gone d))
+                    accepted_drain n c (lent w b t) l r call buf items (known a)
+                    (to ∙ ap (drain (view n c (lent w b t)) h (length buf) policy) at_hand.state_is
+                    ∙ drain_empty (view n c (lent w b t)) h (length buf) policy con.peer.0 _ con.inbox_closed con.outbox_closed con.inbox at_hand.sizes (sym eq ∙ z) (rw gone d))
                     er;
               }
 
@@ -242,27 +242,27 @@ module _ {n c : ℕ} {w b t : List ℕ} {u v : ℕ} (a : Admitted n c (lent w b 
           none_yet d er =
               record {
                 drains = λ call to.
-                    refused-drain n c (lent w b t) l r _ 8 buf items
-                    (to ∙ ap (drain (view n c (lent w b t)) h (length buf) policy) at-hand.state-is
-                    ∙ drain-waits (view n c (lent w b t)) h (length buf) policy con.peer.0 _ con.inbox_closed con.outbox_closed con.inbox at-hand.sizes (sym eq ∙ z) (rw gone d))
+                    refused_drain n c (lent w b t) l r _ 8 buf items
+                    (to ∙ ap (drain (view n c (lent w b t)) h (length buf) policy) at_hand.state_is
+                    ∙ drain_waits (view n c (lent w b t)) h (length buf) policy con.peer.0 _ con.inbox_closed con.outbox_closed con.inbox at_hand.sizes (sym eq ∙ z) (rw gone d))
                     (λ y. omega arith) er;
               }
 
-          pub drains-none : r ≡ nothing_queued con.inbox_closed g → Drains n c (lent w b t) (lent w b t) h policy buf buf items items l l r
-          drains-none er =
+          pub drains_none : r ≡ nothing_queued con.inbox_closed g → Drains n c (lent w b t) (lent w b t) h policy buf buf items items l l r
+          drains_none er =
               cond_both (λ (x : Answer). r ≡ x → Drains n c (lent w b t) (lent w b t) h policy buf buf items items l l r) (con.inbox_closed || not g) none_left none_yet er
 
-        pub drains-taken : (q ≡ 0 → ⊥) → (buf' items' rel rel' : List ℕ) (tk : Taken)
+        pub drains_taken : (q ≡ 0 → ⊥) → (buf' items' rel rel' : List ℕ) (tk : Taken)
             → Takes (part (ring_base c i) c b) (part (places_base n i) 256 w) (part (tokens_base i) 256 t) buf buf' policy items items' rel rel' con.inbox tk
             → (w₂ wk wk' : List ℕ) (z : ℕ) → w₂ ≡ store_at w i (cell_of slot.generation (Connected (with_inbox con tk.inbox))) → Wakes wk wk' con.peer.0 g z
             → Drains n c (lent w b t) (lent w₂ b t) h policy buf buf' items items' (lists wk rel) (lists wk' rel')
             (record { refusal = 0; flags = tk.flags; value = tk.moved; items = tk.items; wakes = z; releases = tk.released })
         unfolding row_at
-        drains-taken ne buf' items' rel rel' tk x w₂ wk wk' z ew wake =
-            drained-at n c w b t (known a) h con at-hand policy buf buf' items items' rel rel' tk (λ y. ne (eq ∙ y))
+        drains_taken ne buf' items' rel rel' tk x w₂ wk wk' z ew wake =
+            drained_at n c w b t (known a) h con at_hand policy buf buf' items items' rel rel' tk (λ y. ne (eq ∙ y))
             (subst (λ (j : ℕ). Takes (part (ring_base c j) c b) (part (places_base n j) 256 w) (part (tokens_base j) 256 t) buf buf' policy items items' rel rel' con.inbox tk) ei x)
             w₂ wk wk' g z _
-            (ew ∙ ap₂ (λ (j : ℕ) (d : ℕ). store_at w j (cell_of d (Connected (with_inbox con tk.inbox)))) ei (loaded-generation w ei es))
+            (ew ∙ ap₂ (λ (j : ℕ) (d : ℕ). store_at w j (cell_of d (Connected (with_inbox con tk.inbox)))) ei (loaded_generation w ei es))
             (sym gone) wake refl
 
 -- ── read and recvmsg ──
@@ -278,36 +278,36 @@ module _ {n c : ℕ} {w b t : List ℕ} {u v : ℕ} (a : Admitted n c (lent w b 
   abbrev receiving : ℕ → ℕ → Outcome
   receiving size most = run (view n c (lent w b t)) (Call.Recvmsg h size most)
 
-  pub read-stale : (buf : List ℕ) (l : Lists) (r : Answer) → not f ≡ true → r ≡ refused_with 1
+  pub read_stale : (buf : List ℕ) (l : Lists) (r : Answer) → not f ≡ true → r ≡ refused_with 1
       → Done (reading (length buf)) n c (lent w b t) (lent w b t) l l r × Filled (reading (length buf)) buf buf [] []
   unfolding run
-  read-stale buf l r z er = refused-drain n c (lent w b t) l r _ 1 buf [] (stale-run n c (lent w b t) h f _ ef z) (λ y. omega arith) er
+  read_stale buf l r z er = refused_drain n c (lent w b t) l r _ 1 buf [] (stale_run n c (lent w b t) h f _ ef z) (λ y. omega arith) er
 
-  pub recvmsg-stale : (buf items : List ℕ) (l : Lists) (r : Answer) → not f ≡ true → r ≡ refused_with 1
+  pub recvmsg_stale : (buf items : List ℕ) (l : Lists) (r : Answer) → not f ≡ true → r ≡ refused_with 1
       → Done (receiving (length buf) (length items)) n c (lent w b t) (lent w b t) l l r × Filled (receiving (length buf) (length items)) buf buf items items
   unfolding run
-  recvmsg-stale buf items l r z er = refused-drain n c (lent w b t) l r _ 1 buf items (stale-run n c (lent w b t) h f _ ef z) (λ y. omega arith) er
+  recvmsg_stale buf items l r z er = refused_drain n c (lent w b t) l r _ 1 buf items (stale_run n c (lent w b t) h f _ ef z) (λ y. omega arith) er
 
   module _ (live' : not f ≡ false) where
     lives : Live n c (lent w b t) h
     lives = live n c (lent w b t) h f ef live'
 
-    pub read-drains : (buf buf' items items' : List ℕ) (m : ℕ) (l l' : Lists) (r : Answer) (s' : Store) → Drains n c (lent w b t) s' h (policy_of Drop m) buf buf' items items' l l' r
+    pub read_drains : (buf buf' items items' : List ℕ) (m : ℕ) (l l' : Lists) (r : Answer) (s' : Store) → Drains n c (lent w b t) s' h (policy_of Drop m) buf buf' items items' l l' r
         → Done (reading (length buf)) n c (lent w b t) s' l l' r × Filled (reading (length buf)) buf buf' [] []
     unfolding run policy_of
-    read-drains buf buf' items items' m l l' r s' x =
-        let y = x.drains (Call.Read h (length buf)) (live-run n c (lent w b t) h _ lives) in
-        (y.0, record { buffer = y.1.buffer; item-list = no_place (reading (length buf)).items 0 })
+    read_drains buf buf' items items' m l l' r s' x =
+        let y = x.drains (Call.Read h (length buf)) (live_run n c (lent w b t) h _ lives) in
+        (y.0, record { buffer = y.1.buffer; item_list = no_place (reading (length buf)).items 0 })
 
-    pub recvmsg-empty : (buf items : List ℕ) (l : Lists) (r : Answer) → length buf ≡ 0 → r ≡ refused_with 2
+    pub recvmsg_empty : (buf items : List ℕ) (l : Lists) (r : Answer) → length buf ≡ 0 → r ≡ refused_with 2
         → Done (receiving (length buf) (length items)) n c (lent w b t) (lent w b t) l l r × Filled (receiving (length buf) (length items)) buf buf items items
     unfolding run refuse_if
-    recvmsg-empty buf items l r z er =
-        refused-drain n c (lent w b t) l r _ 2 buf items (live-run n c (lent w b t) h _ lives ∙ rw (eq-eqb (length buf) 0 z) refl) (λ y. omega arith) er
+    recvmsg_empty buf items l r z er =
+        refused_drain n c (lent w b t) l r _ 2 buf items (live_run n c (lent w b t) h _ lives ∙ rw (eq-eqb (length buf) 0 z) refl) (λ y. omega arith) er
 
-    pub recvmsg-drains : (buf buf' items items' : List ℕ) (l l' : Lists) (r : Answer) (s' : Store) → (length buf ≡ 0 → ⊥)
+    pub recvmsg_drains : (buf buf' items items' : List ℕ) (l l' : Lists) (r : Answer) (s' : Store) → (length buf ≡ 0 → ⊥)
         → Drains n c (lent w b t) s' h (policy_of Take (length items)) buf buf' items items' l l' r
         → Done (receiving (length buf) (length items)) n c (lent w b t) s' l l' r × Filled (receiving (length buf) (length items)) buf buf' items items'
     unfolding run refuse_if policy_of
-    recvmsg-drains buf buf' items items' l l' r s' z x =
-        x.drains (Call.Recvmsg h (length buf) (length items)) (live-run n c (lent w b t) h _ lives ∙ rw (ne_eqb (length buf) 0 z) refl)
+    recvmsg_drains buf buf' items items' l l' r s' z x =
+        x.drains (Call.Recvmsg h (length buf) (length items)) (live_run n c (lent w b t) h _ lives ∙ rw (ne_eqb (length buf) 0 z) refl)

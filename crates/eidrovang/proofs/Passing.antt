@@ -29,9 +29,9 @@ both a n v e f = rw (e, f)
 -- ── Headers ──
 
 module _ (f : MsgHdr → Answer) (m n : Message) (r : EidNumber) (is : m ≡ n) where
-  pub has-header : (h : MsgHdr) (a : Answer) → m ≡ Message.Is h → a ≡ f h → r ≡ numbers a → r ≡ numbers (asked f n)
+  pub has_header : (h : MsgHdr) (a : Answer) → m ≡ Message.Is h → a ≡ f h → r ≡ numbers a → r ≡ numbers (asked f n)
   unfolding asked
-  has-header h a e g t = t ∙ ap numbers (g ∙ ap (asked f) (sym e ∙ is))
+  has_header h a e g t = t ∙ ap numbers (g ∙ ap (asked f) (sym e ∙ is))
 
   pub no_header : (e : Errno) → m ≡ Message.Refused e → r ≡ numbers (Answer.Refused e) → r ≡ numbers (asked f n)
   unfolding asked
@@ -40,31 +40,31 @@ module _ (f : MsgHdr → Answer) (m n : Message) (r : EidNumber) (is : m ≡ n) 
 -- ── shutdown's number ──
 
 module _ (z : ℤ) (fits : SFits w32 z) (m : How) (r : EidNumber) (is : m ≡ how_of (to_z w32 (of_z w32 z))) where
-  is-how : m ≡ how_of z
-  is-how = is ∙ ap how_of (to_z-of_z w32 z fits)
+  is_how : m ≡ how_of z
+  is_how = is ∙ ap how_of (to_z-of_z w32 z fits)
 
-  pub has-how : (d : ShutdownHow) (k : ℕ) → m ≡ How.Is d → k ≡ direction_number d → r ≡ numbers (Answer.Is k) → r ≡ numbers (how_number (how_of z))
+  pub has_how : (d : ShutdownHow) (k : ℕ) → m ≡ How.Is d → k ≡ direction_number d → r ≡ numbers (Answer.Is k) → r ≡ numbers (how_number (how_of z))
   unfolding how_number
-  has-how d k e g t = t ∙ ap (λ (x : ℕ). numbers (Answer.Is x)) g ∙ ap (λ (x : How). numbers (how_number x)) (sym e ∙ is-how)
+  has_how d k e g t = t ∙ ap (λ (x : ℕ). numbers (Answer.Is x)) g ∙ ap (λ (x : How). numbers (how_number x)) (sym e ∙ is_how)
 
   pub no_how : (e : Errno) → m ≡ How.Refused e → r ≡ numbers (Answer.Refused e) → r ≡ numbers (how_number (how_of z))
   unfolding how_number
-  no_how e q t = t ∙ ap (λ (x : How). numbers (how_number x)) (sym q ∙ is-how)
+  no_how e q t = t ∙ ap (λ (x : How). numbers (how_number x)) (sym q ∙ is_how)
 
 -- ── A control header's count ──
 
 module _ (n k : ℕ) (l t : ℤ) (fl : SFits w32 l) (ft : SFits w32 t) (m : Count) (r : EidNumber)
     (is : m ≡ rights_count_of (header_of n (to_z w32 (of_z w32 l)) (to_z w32 (of_z w32 t))) k) where
-  is-count : m ≡ rights_count_of (header_of n l t) k
-  is-count = is ∙ ap₂ (λ (x y : ℤ). rights_count_of (header_of n x y) k) (to_z-of_z w32 l fl) (to_z-of_z w32 t ft)
+  is_count : m ≡ rights_count_of (header_of n l t) k
+  is_count = is ∙ ap₂ (λ (x y : ℤ). rights_count_of (header_of n x y) k) (to_z-of_z w32 l fl) (to_z-of_z w32 t ft)
 
-  pub has-count : (i : ℕ) → m ≡ Count.Of i → r ≡ numbers (Answer.Is i) → r ≡ numbers (count_number (rights_count_of (header_of n l t) k))
+  pub has_count : (i : ℕ) → m ≡ Count.Of i → r ≡ numbers (Answer.Is i) → r ≡ numbers (count_number (rights_count_of (header_of n l t) k))
   unfolding count_number
-  has-count i e q = q ∙ ap (λ (x : Count). numbers (count_number x)) (sym e ∙ is-count)
+  has_count i e q = q ∙ ap (λ (x : Count). numbers (count_number x)) (sym e ∙ is_count)
 
-  pub no-count : m ≡ Count.None → r ≡ numbers (Answer.Refused EINVAL) → r ≡ numbers (count_number (rights_count_of (header_of n l t) k))
+  pub no_count : m ≡ Count.None → r ≡ numbers (Answer.Refused EINVAL) → r ≡ numbers (count_number (rights_count_of (header_of n l t) k))
   unfolding count_number
-  no-count e q = q ∙ ap (λ (x : Count). numbers (count_number x)) (sym e ∙ is-count)
+  no_count e q = q ∙ ap (λ (x : Count). numbers (count_number x)) (sym e ∙ is_count)
 
 -- ── A made header ──
 

@@ -26,98 +26,98 @@ use Rattle.storage.specs.declared.State.{State}
 use Rattle.storage.specs.declared.State.TheVariants.{Closed, Unbound, Bound, Listening, Connected}
 use Rattle.storage.specs.declared.Listener.{Listener}
 use Rattle.storage.specs.declared.Connection.{Connection}
-use Rattle.storage.proofs.Coding.{loaded-generation, loaded-state, loaded_at}
+use Rattle.storage.proofs.Coding.{loaded_generation, loaded_state, loaded_at}
 use Rattle.table.specs.Formed.{queue_in}
 use Rattle.table.specs.Admission.{Admitted}
 use Rattle.promise.specs.Answers.{refused_with, accepted_with, released_with}
 use Rattle.promise.specs.Promise.{Lists, lists, Done}
 use Rattle.promise.specs.declared.Answer.{Answer}
-use Rattle.promise.proofs.Known.{Known, known, refused-done, listener-at}
+use Rattle.promise.proofs.Known.{Known, known, refused_done, listener_at}
 use Rattle.promise.proofs.Called.{Unconnected}
 use Rattle.promise.proofs.Held.{inbox-in}
-use Rattle.promise.proofs.Live.{Live, live, not-closed, state-seen, stale-run}
+use Rattle.promise.proofs.Live.{Live, live, not_closed, state_seen, stale_run}
 use Rattle.ending.specs.declared.Closing.{Closing}
 use Rattle.ending.specs.Leaving.{peer_in, Ends, Fits, Serves, SoFar, connection_in}
-use Rattle.ending.proofs.Leaving.{none_yet, one_more, first-left, all_done}
-use Rattle.ending.proofs.Listeners.{line, next-serves, next-closed, line-done}
+use Rattle.ending.proofs.Leaving.{none_yet, one_more, first_left, all_done}
+use Rattle.ending.proofs.Listeners.{line, next_serves, next_closed, line_done}
 
 -- ── end ──
 
 module _ (n c i g : ℕ) (k : Connection) (w w' t wk rl rl' : List ℕ) (d : Closing) (z : Discarded) (o : Bool) (eo : o ≡ open_in n w k.peer.0)
     (ds : Discards c (part (tokens_base i) 256 t) rl rl' d.releases k.inbox z) (ew : w' ≡ store_at w i (cell_of g Closed)) where
-  released-is : d.releases + z.released ≡ d.releases + k.inbox.items
-  released-is = ap (λ (y : ℕ). d.releases + y) ds.released-are
+  released_is : d.releases + z.released ≡ d.releases + k.inbox.items
+  released_is = ap (λ (y : ℕ). d.releases + y) ds.released_are
 
-  pub ends-woken : o ≡ true → Ends n i g k w w' t wk (set wk d.wakes k.peer.0) rl rl' d (record { wakes = d.wakes + 1; releases = d.releases + z.released })
+  pub ends_woken : o ≡ true → Ends n i g k w w' t wk (set wk d.wakes k.peer.0) rl rl' d (record { wakes = d.wakes + 1; releases = d.releases + z.released })
   unfolding peer_in
-  ends-woken e =
+  ends_woken e =
       let p : peer_in n w k ≡ k.peer.0 ∷ [] = ap (λ (b : Bool). cond b (k.peer.0 ∷ []) []) (sym eo ∙ e) in
       record {
         words = ew;
         wakes = ap (sets wk d.wakes) (sym p);
-        releases = ds.releases-it;
-        wake-count = ap (λ (y : List ℕ). d.wakes + length y) (sym p);
-        release-count = released-is;
+        releases = ds.releases_it;
+        wake_count = ap (λ (y : List ℕ). d.wakes + length y) (sym p);
+        release_count = released_is;
       }
 
-  pub ends-silent : o ≡ false → Ends n i g k w w' t wk wk rl rl' d (record { wakes = d.wakes; releases = d.releases + z.released })
+  pub ends_silent : o ≡ false → Ends n i g k w w' t wk wk rl rl' d (record { wakes = d.wakes; releases = d.releases + z.released })
   unfolding peer_in
-  ends-silent e =
+  ends_silent e =
       let p : peer_in n w k ≡ [] = ap (λ (b : Bool). cond b (k.peer.0 ∷ []) []) (sym eo ∙ e) in
       record {
         words = ew;
         wakes = ap (sets wk d.wakes) (sym p);
-        releases = ds.releases-it;
-        wake-count = (let z : d.wakes ≡ d.wakes + 0 = omega arith in z) ∙ ap (λ (y : List ℕ). d.wakes + length y) (sym p);
-        release-count = released-is;
+        releases = ds.releases_it;
+        wake_count = (let z : d.wakes ≡ d.wakes + 0 = omega arith in z) ∙ ap (λ (y : List ℕ). d.wakes + length y) (sym p);
+        release_count = released_is;
       }
 
 -- ── end_server ──
 
 module _ (n c : ℕ) (w : List ℕ) (x i : ℕ) (sv : Serves n c w x) (ei : i ≡ slot_of x) (sl : Slot) (es : sl ≡ loaded_at w i) where
-  state-at : sl.state ≡ state_of (cell_at w (slot_of x))
-  state-at = loaded-state w ei es
+  state_at : sl.state ≡ state_of (cell_at w (slot_of x))
+  state_at = loaded_state w ei es
 
-  pub serves-always : {A : Type 0} → Unconnected sl.state → A
-  serves-always d = absurd (d sv.server (state-at ∙ sv.is-server))
+  pub serves_always : {A : Type 0} → Unconnected sl.state → A
+  serves_always d = absurd (d sv.server (state_at ∙ sv.is_server))
 
   module _ (k : Connection) (ek : sl.state ≡ Connected k) where
-    is-k : connection_in (state_of (cell_at w (slot_of x))) ≡ k
-    is-k = ap connection_in (sym state-at ∙ ek)
+    is_k : connection_in (state_of (cell_at w (slot_of x))) ≡ k
+    is_k = ap connection_in (sym state_at ∙ ek)
 
-    pub server-fits : Fits c k
-    server-fits = subst (Fits c) (sym (ap connection_in sv.is-server) ∙ is-k) sv.fits
+    pub server_fits : Fits c k
+    server_fits = subst (Fits c) (sym (ap connection_in sv.is_server) ∙ is_k) sv.fits
 
-    pub server-within : i < n
-    server-within = let z = sv.within in omega arith
+    pub server_within : i < n
+    server_within = let z = sv.within in omega arith
 
-    pub server-ended : (w' t wk wk' rl rl' : List ℕ) (d r : Closing) → Ends n i sl.generation k w w' t wk wk' rl rl' d r
+    pub server_ended : (w' t wk wk' rl rl' : List ℕ) (d r : Closing) → Ends n i sl.generation k w w' t wk wk' rl rl' d r
         → Ends n (slot_of x) (cell_at w (slot_of x)).generation (connection_in (state_of (cell_at w (slot_of x)))) w w' t wk wk' rl rl' d r
-    server-ended w' t wk wk' rl rl' d r e =
-        subst (λ (y : Connection). Ends n (slot_of x) (cell_at w (slot_of x)).generation y w w' t wk wk' rl rl' d r) (sym is-k)
-        (subst (λ (y : ℕ). Ends n (slot_of x) y k w w' t wk wk' rl rl' d r) (loaded-generation w ei es) (subst (λ (y : ℕ). Ends n y sl.generation k w w' t wk wk' rl rl' d r) ei e))
+    server_ended w' t wk wk' rl rl' d r e =
+        subst (λ (y : Connection). Ends n (slot_of x) (cell_at w (slot_of x)).generation y w w' t wk wk' rl rl' d r) (sym is_k)
+        (subst (λ (y : ℕ). Ends n (slot_of x) y k w w' t wk wk' rl rl' d r) (loaded_generation w ei es) (subst (λ (y : ℕ). Ends n y sl.generation k w w' t wk wk' rl rl' d r) ei e))
 
 -- ── end_listener ──
 
 module _ (n c : ℕ) (s : Store) (kn : Known n c s) (h : ℕ) (lv : Live n c s h) (q : Listener) (is : state_of (cell_at s.words (slot_of h)) ≡ Listening q) where
-  pub listener-left : (i g : ℕ) (w' wk wk' rl : List ℕ) (d : Closing) → i ≡ slot_of h → g ≡ (cell_at s.words (slot_of h)).generation → w' ≡ store_at s.words i (cell_of g Closed) → wk' ≡ set wk 0 0
+  pub listener_left : (i g : ℕ) (w' wk wk' rl : List ℕ) (d : Closing) → i ≡ slot_of h → g ≡ (cell_at s.words (slot_of h)).generation → w' ≡ store_at s.words i (cell_of g Closed) → wk' ≡ set wk 0 0
       → d ≡ record { wakes = 1; releases = 0 } → SoFar n c s (h ∷ take 0 (line n c s kn h lv q is)) 1 0 w' wk wk' rl rl d
   unfolding close_wakes kept show_in
-  listener-left i g w' wk wk' rl d ei eg ew ek ed =
-      let st = state-seen n c s h (Listening q) lv.within is in
+  listener_left i g w' wk wk' rl d ei eg ew ek ed =
+      let st = state_seen n c s h (Listening q) lv.within is in
       let cw : close_wakes (view n c s) (model.state_of (view n c s) h) ≡ 0 ∷ [] = ap (close_wakes (view n c s)) st in
-      first-left n c s kn h g lv.within eg w' wk wk' rl d (ew ∙ ap (λ (y : ℕ). store_at s.words y (cell_of g Closed)) ei) (ek ∙ ap (sets wk 0) (sym cw)) (ap kept st)
+      first_left n c s kn h g lv.within eg w' wk wk' rl d (ew ∙ ap (λ (y : ℕ). store_at s.words y (cell_of g Closed)) ei) (ek ∙ ap (sets wk 0) (sym cw)) (ap kept st)
       (ap (λ (y : Closing). y.wakes) ed ∙ ap length (sym cw)) (ap (λ (y : Closing). y.releases) ed) (let z = ap (λ (y : Closing). y.wakes) ed in omega arith)
 
-  pub ring-range : (q.head < n) × (q.pending ≤ n)
-  ring-range = let z = listener-at kn lv.within is in (z.2, z.3)
+  pub ring_range : (q.head < n) × (q.pending ≤ n)
+  ring_range = let z = listener_at kn lv.within is in (z.2, z.3)
 
 -- ── close ──
 
 module _ (n c : ℕ) (s : Store) (l : Lists) (h : ℕ) (b : Bool) (eb : b ≡ live_in n s.words h) (r : Answer) where
   pub stale : not b ≡ true → r ≡ refused_with 1 → Done (run (view n c s) (Call.Close h)) n c s s l l r
   unfolding run
-  stale t er = refused-done _ 1 n c s l r (stale-run n c s h b _ eb t) (λ z. omega arith) er
+  stale t er = refused_done _ 1 n c s l r (stale_run n c s h b _ eb t) (λ z. omega arith) er
 
 module _ (n c : ℕ) (s : Store) (wk rl : List ℕ) (h : ℕ) (b : Bool) (eb : b ≡ live_in n s.words h) (r : Answer) (kn : Known n c s) (t : not b ≡ false) (i : ℕ) (ei : i ≡ slot_of h) (sl : Slot)
     (es : sl ≡ loaded_at s.words i) where
@@ -125,61 +125,61 @@ module _ (n c : ℕ) (s : Store) (wk rl : List ℕ) (h : ℕ) (b : Bool) (eb : b
   lv = live n c s h b eb t
 
   is_state : (σ : State) → sl.state ≡ σ → state_of (cell_at s.words (slot_of h)) ≡ σ
-  is_state σ e = sym (loaded-state s.words ei es) ∙ e
+  is_state σ e = sym (loaded_state s.words ei es) ∙ e
 
-  generation-is : sl.generation ≡ (cell_at s.words (slot_of h)).generation
-  generation-is = loaded-generation s.words ei es
+  generation_is : sl.generation ≡ (cell_at s.words (slot_of h)).generation
+  generation_is = loaded_generation s.words ei es
 
   seen_as : (σ : State) → sl.state ≡ σ → model.state_of (view n c s) h ≡ (show_in (row_at n c s (slot_of h)) (cell_at s.words (slot_of h)).generation σ).state
-  seen_as σ e = state-seen n c s h σ lv.within (is_state σ e)
+  seen_as σ e = state_seen n c s h σ lv.within (is_state σ e)
 
-  pub closed-never : {l : Lists} → sl.state ≡ Closed → r ≡ refused_with 19 → Done (run (view n c s) (Call.Close h)) n c s s l l r
-  closed-never e er = not-closed n c s h lv (is_state Closed e)
+  pub closed_never : {l : Lists} → sl.state ≡ Closed → r ≡ refused_with 19 → Done (run (view n c s) (Call.Close h)) n c s s l l r
+  closed_never e er = not_closed n c s h lv (is_state Closed e)
 
-  pub unbound-closed : (w' : List ℕ) → sl.state ≡ Unbound → w' ≡ store_at s.words i (cell_of sl.generation Closed) → r ≡ accepted_with 0 0
+  pub unbound_closed : (w' : List ℕ) → sl.state ≡ Unbound → w' ≡ store_at s.words i (cell_of sl.generation Closed) → r ≡ accepted_with 0 0
       → Done (run (view n c s) (Call.Close h)) n c s (lent w' s.bytes s.tokens) (lists wk rl) (lists wk rl) r
   unfolding close_wakes kept ending.queued show_in
-  unbound-closed w' e ew er =
+  unbound_closed w' e ew er =
       let st = seen_as Unbound e in
       let d : Closing = record { wakes = 0; releases = 0 } in
       all_done n c s kn h 1 0 w' wk wk rl rl d r lv
       (subst (λ (y : List ℕ). SoFar n c s (h ∷ y) 1 0 w' wk wk rl rl d) (sym (ap ending.queued st))
-      (first-left n c s kn h sl.generation lv.within generation-is w' wk wk rl d (ew ∙ ap (λ (y : ℕ). store_at s.words y (cell_of sl.generation Closed)) ei)
+      (first_left n c s kn h sl.generation lv.within generation_is w' wk wk rl d (ew ∙ ap (λ (y : ℕ). store_at s.words y (cell_of sl.generation Closed)) ei)
       (ap (λ (y : model.State). sets wk 0 (close_wakes (view n c s) y)) (sym st)) (ap kept st) (ap (λ (y : model.State). length (close_wakes (view n c s) y)) (sym st)) refl (omega arith)))
       er
 
-  pub bound-closed : (m : ℕ) (w' : List ℕ) → sl.state ≡ Bound m → w' ≡ store_at s.words i (cell_of sl.generation Closed) → r ≡ accepted_with 0 1
+  pub bound_closed : (m : ℕ) (w' : List ℕ) → sl.state ≡ Bound m → w' ≡ store_at s.words i (cell_of sl.generation Closed) → r ≡ accepted_with 0 1
       → Done (run (view n c s) (Call.Close h)) n c s (lent w' s.bytes s.tokens) (lists wk rl) (lists (set wk 0 0) rl) r
   unfolding close_wakes kept ending.queued show_in
-  bound-closed m w' e ew er =
+  bound_closed m w' e ew er =
       let st = seen_as (Bound m) e in
       let d : Closing = record { wakes = 1; releases = 0 } in
       all_done n c s kn h 1 0 w' wk (set wk 0 0) rl rl d r lv
       (subst (λ (y : List ℕ). SoFar n c s (h ∷ y) 1 0 w' wk (set wk 0 0) rl rl d) (sym (ap ending.queued st))
-      (first-left n c s kn h sl.generation lv.within generation-is w' wk (set wk 0 0) rl d (ew ∙ ap (λ (y : ℕ). store_at s.words y (cell_of sl.generation Closed)) ei)
+      (first_left n c s kn h sl.generation lv.within generation_is w' wk (set wk 0 0) rl d (ew ∙ ap (λ (y : ℕ). store_at s.words y (cell_of sl.generation Closed)) ei)
       (ap (λ (y : model.State). sets wk 0 (close_wakes (view n c s) y)) (sym st)) (ap kept st) (ap (λ (y : model.State). length (close_wakes (view n c s) y)) (sym st)) refl (omega arith)))
       er
 
-  pub listener-told : (q : Listener) → sl.state ≡ Listening q → (live_in n s.words h ≡ true) × (state_of (cell_at s.words (slot_of h)) ≡ Listening q) × (sl.generation ≡ (cell_at s.words (slot_of h)).generation)
-  listener-told q e = (sym eb ∙ not-false b t, is_state (Listening q) e, generation-is)
+  pub listener_told : (q : Listener) → sl.state ≡ Listening q → (live_in n s.words h ≡ true) × (state_of (cell_at s.words (slot_of h)) ≡ Listening q) × (sl.generation ≡ (cell_at s.words (slot_of h)).generation)
+  listener_told q e = (sym eb ∙ not-false b t, is_state (Listening q) e, generation_is)
 
   module _ (k : Connection) (ek : sl.state ≡ Connected k) where
-    pub socket-fits : Fits c k
-    socket-fits =
+    pub socket_fits : Fits c k
+    socket_fits =
         let z = inbox-in kn lv.within (is_state (Connected k) ek) in
-        record { head_in = z.head_in; bytes-in = z.fits; first-in = z.first-in; items-in = z.items-in }
+        record { head_in = z.head_in; bytes_in = z.fits; first_in = z.first_in; items-in = z.items-in }
 
-    pub socket-within : i < n
-    socket-within = let z = lv.within in omega arith
+    pub socket_within : i < n
+    socket_within = let z = lv.within in omega arith
 
-    pub connected-closed : (w' wk' rl' : List ℕ) (d : Closing) → Ends n i sl.generation k s.words w' s.tokens wk wk' rl rl' (record { wakes = 0; releases = 0 }) d → r ≡ released_with d.wakes d.releases
+    pub connected_closed : (w' wk' rl' : List ℕ) (d : Closing) → Ends n i sl.generation k s.words w' s.tokens wk wk' rl rl' (record { wakes = 0; releases = 0 }) d → r ≡ released_with d.wakes d.releases
         → Done (run (view n c s) (Call.Close h)) n c s (lent w' s.bytes s.tokens) (lists wk rl) (lists wk' rl') r
     unfolding ending.queued show_in
-    connected-closed w' wk' rl' d e er =
+    connected_closed w' wk' rl' d e er =
         let st = seen_as (Connected k) ek in
         all_done n c s kn h 1 1 w' wk wk' rl rl' d r lv
         (subst (λ (y : List ℕ). SoFar n c s (h ∷ y) 1 1 w' wk wk' rl rl' d) (sym (ap ending.queued st))
-        (one_more n c s kn [] 0 0 s.words wk wk rl rl (record { wakes = 0; releases = 0 }) (none_yet n c s wk rl) h k sl.generation lv.within (is_state (Connected k) ek) generation-is socket-fits refl w' wk' rl' d
+        (one_more n c s kn [] 0 0 s.words wk wk rl rl (record { wakes = 0; releases = 0 }) (none_yet n c s wk rl) h k sl.generation lv.within (is_state (Connected k) ek) generation_is socket_fits refl w' wk' rl' d
         (subst (λ (y : ℕ). Ends n y sl.generation k s.words w' s.tokens wk wk' rl rl' (record { wakes = 0; releases = 0 }) d) ei e)))
         er
 
@@ -204,8 +204,8 @@ pub record Going (n c i : ℕ) (q : Listener) (b t w₁ wk₁ rl₁ : List ℕ) 
 long_as : (l' l xs : List ℕ) → l' ≡ sets l 0 xs → length l' ≡ length l
 long_as l' l xs e = ap length e ∙ length-sets l 0 xs
 
-pub going-first : (n c i : ℕ) (q : Listener) (b t w wk rl : List ℕ) (d : Closing) → Going n c i q b t w wk rl d 0 w wk rl d
-going-first n c i q b t w wk rl d = record { goes = λ h w₀ wk₀ rl₀ g so. so }
+pub going_first : (n c i : ℕ) (q : Listener) (b t w wk rl : List ℕ) (d : Closing) → Going n c i q b t w wk rl d 0 w wk rl d
+going_first n c i q b t w wk rl d = record { goes = λ h w₀ wk₀ rl₀ g so. so }
 
 module _ {n c i : ℕ} {q : Listener} {b t w₁ wk₁ rl₁ : List ℕ} {d₁ : Closing} {k : ℕ} {w wk rl : List ℕ} {d : Closing} (go : Going n c i q b t w₁ wk₁ rl₁ d₁ k w wk rl d) (hk : k < q.pending) (p x : ℕ)
     (ep : p ≡ place_of n (q.head + k)) (ex : x ≡ get_or w (queue_base n i + p) 0) where
@@ -214,27 +214,27 @@ module _ {n c i : ℕ} {q : Listener} {b t w₁ wk₁ rl₁ : List ℕ} {d₁ : 
   going_on w' wk' rl' r e =
       record {
         goes = λ h w₀ wk₀ rl₀ g so.
-            next-closed n c (lent w₀ b t) g.knows h g.lives q g.listens k (k + 1) k w wk₀ wk rl₀ rl d (go.goes h w₀ wk₀ rl₀ g so) hk p x ep
+            next_closed n c (lent w₀ b t) g.knows h g.lives q g.listens k (k + 1) k w wk₀ wk rl₀ rl d (go.goes h w₀ wk₀ rl₀ g so) hk p x ep
             (ex ∙ ap (λ (y : ℕ). get_or w (queue_base n y + p) 0) g.slot) w' wk' rl' r e;
       }
 
   module _ (h : ℕ) (w₀ wk₀ rl₀ : List ℕ) (g : Begun n c i q h w₀ b t) (so : SoFar n c (lent w₀ b t) (h ∷ []) 1 0 w₁ wk₀ wk₁ rl₀ rl₁ d₁) where
-    pub serves-next : Serves n c w x
-    serves-next =
-        next-serves n c (lent w₀ b t) g.knows h g.lives q g.listens k (k + 1) k w wk₀ wk rl₀ rl d (go.goes h w₀ wk₀ rl₀ g so) hk p x ep (ex ∙ ap (λ (y : ℕ). get_or w (queue_base n y + p) 0) g.slot)
+    pub serves_next : Serves n c w x
+    serves_next =
+        next_serves n c (lent w₀ b t) g.knows h g.lives q g.listens k (k + 1) k w wk₀ wk rl₀ rl d (go.goes h w₀ wk₀ rl₀ g so) hk p x ep (ex ∙ ap (λ (y : ℕ). get_or w (queue_base n y + p) 0) g.slot)
 
     pub room_next : n + 1 ≤ length wk₀ → 256 * n ≤ length rl₀ → (d.wakes < length wk) × (d.releases + 256 ≤ length rl)
     room_next lw lr =
         let f = go.goes h w₀ wk₀ rl₀ g so in
-        let z = (ring-range n c (lent w₀ b t) g.knows h g.lives q g.listens).1 in
-        let a = f.wakes-few in
-        let e = f.releases-few in
-        let lk : length wk ≡ length wk₀ = long_as wk wk₀ (close_all (view n c (lent w₀ b t)) (h ∷ take k (queued (queue_in n w₀ (slot_of h)) q.head q.pending))).wakes f.wakes-are in
-        let lx : length rl ≡ length rl₀ = long_as rl rl₀ (close_all (view n c (lent w₀ b t)) (h ∷ take k (queued (queue_in n w₀ (slot_of h)) q.head q.pending))).releases f.releases-are in
+        let z = (ring_range n c (lent w₀ b t) g.knows h g.lives q g.listens).1 in
+        let a = f.wakes_few in
+        let e = f.releases_few in
+        let lk : length wk ≡ length wk₀ = long_as wk wk₀ (close_all (view n c (lent w₀ b t)) (h ∷ take k (queued (queue_in n w₀ (slot_of h)) q.head q.pending))).wakes f.wakes_are in
+        let lx : length rl ≡ length rl₀ = long_as rl rl₀ (close_all (view n c (lent w₀ b t)) (h ∷ take k (queued (queue_in n w₀ (slot_of h)) q.head q.pending))).releases f.releases_are in
         (omega arith, omega arith)
 
-    pub words-next : (8 + 16 * n ≤ length w) × (256 * n ≤ length t) × (c ≤ 65536)
-    words-next =
+    pub words_next : (8 + 16 * n ≤ length w) × (256 * n ≤ length t) × (c ≤ 65536)
+    words_next =
         let f = go.goes h w₀ wk₀ rl₀ g so in
         let r = g.knows.roomy in
         let a = r.words in
@@ -242,37 +242,37 @@ module _ {n c i : ℕ} {q : Listener} {b t w₁ wk₁ rl₁ : List ℕ} {d₁ : 
         let y = r.tokens in
         (omega arith, omega arith, r.small)
 
-pub going-words : {n c i : ℕ} {q : Listener} {b t w₁ wk₁ rl₁ : List ℕ} {d₁ : Closing} {k : ℕ} {w wk rl : List ℕ} {d : Closing} → Going n c i q b t w₁ wk₁ rl₁ d₁ k w wk rl d
+pub going_words : {n c i : ℕ} {q : Listener} {b t w₁ wk₁ rl₁ : List ℕ} {d₁ : Closing} {k : ℕ} {w wk rl : List ℕ} {d : Closing} → Going n c i q b t w₁ wk₁ rl₁ d₁ k w wk rl d
     → (h : ℕ) (w₀ wk₀ rl₀ : List ℕ) → Begun n c i q h w₀ b t → SoFar n c (lent w₀ b t) (h ∷ []) 1 0 w₁ wk₀ wk₁ rl₀ rl₁ d₁
     → (length w ≡ length w₀) × (length wk ≡ length wk₀) × (length rl ≡ length rl₀)
-going-words {n} {c} {i} {q} {b} {t} {k = k} {w} {wk} {rl} go h w₀ wk₀ rl₀ g so =
+going_words {n} {c} {i} {q} {b} {t} {k = k} {w} {wk} {rl} go h w₀ wk₀ rl₀ g so =
     let f = go.goes h w₀ wk₀ rl₀ g so in
     let cl : ending.Closing = close_all (view n c (lent w₀ b t)) (h ∷ take k (queued (queue_in n w₀ (slot_of h)) q.head q.pending)) in
-    (f.around.words_long, long_as wk wk₀ cl.wakes f.wakes-are, long_as rl rl₀ cl.releases f.releases-are)
+    (f.around.words_long, long_as wk wk₀ cl.wakes f.wakes_are, long_as rl rl₀ cl.releases f.releases_are)
 
 pub going_done : {n c i : ℕ} {q : Listener} {b t w₁ wk₁ rl₁ : List ℕ} {d₁ : Closing} {k : ℕ} {w wk rl : List ℕ} {d : Closing} → Going n c i q b t w₁ wk₁ rl₁ d₁ k w wk rl d → k ≤ q.pending → q.pending ≤ k
     → (h : ℕ) (w₀ wk₀ rl₀ : List ℕ) → Begun n c i q h w₀ b t → SoFar n c (lent w₀ b t) (h ∷ []) 1 0 w₁ wk₀ wk₁ rl₀ rl₁ d₁ → (r : Answer) → r ≡ released_with d.wakes d.releases
     → Done (run (view n c (lent w₀ b t)) (Call.Close h)) n c (lent w₀ b t) (lent w b t) (lists wk₀ rl₀) (lists wk rl) r
 going_done {n} {c} {i} {q} {b} {t} {k = k} {w} {wk} {rl} {d} go h₁ h₂ h w₀ wk₀ rl₀ g so r er =
-    line-done n c (lent w₀ b t) g.knows h g.lives q g.listens k (k + 1) k w wk₀ wk rl₀ rl d (go.goes h w₀ wk₀ rl₀ g so) h₁ h₂ r er
+    line_done n c (lent w₀ b t) g.knows h g.lives q g.listens k (k + 1) k w wk₀ wk rl₀ rl d (go.goes h w₀ wk₀ rl₀ g so) h₁ h₂ r er
 
 -- the listener itself
-pub left-first : {n c i h : ℕ} {q : Listener} {w b t : List ℕ} (g : Begun n c i q h w b t) (gen : ℕ) (w₁ wk rl : List ℕ) → gen ≡ (cell_at w (slot_of h)).generation → w₁ ≡ store_at w i (cell_of gen Closed)
+pub left_first : {n c i h : ℕ} {q : Listener} {w b t : List ℕ} (g : Begun n c i q h w b t) (gen : ℕ) (w₁ wk rl : List ℕ) → gen ≡ (cell_at w (slot_of h)).generation → w₁ ≡ store_at w i (cell_of gen Closed)
     → SoFar n c (lent w b t) (h ∷ []) 1 0 w₁ wk (set wk 0 0) rl rl (record { wakes = 1; releases = 0 })
-left-first {n} {c} {i} {h} {q} {w} {b} {t} g gen w₁ wk rl eg ew =
-    listener-left n c (lent w b t) g.knows h g.lives q g.listens i gen w₁ wk (set wk 0 0) rl (record { wakes = 1; releases = 0 }) g.slot eg ew refl refl
+left_first {n} {c} {i} {h} {q} {w} {b} {t} g gen w₁ wk rl eg ew =
+    listener_left n c (lent w b t) g.knows h g.lives q g.listens i gen w₁ wk (set wk 0 0) rl (record { wakes = 1; releases = 0 }) g.slot eg ew refl refl
 
 -- what its parts ask
-live-true : (n c : ℕ) (w b t : List ℕ) (h : ℕ) → live_in n w h ≡ true → Live n c (lent w b t) h
-live-true n c w b t h l = live n c (lent w b t) h true (sym l) refl
+live_true : (n c : ℕ) (w b t : List ℕ) (h : ℕ) → live_in n w h ≡ true → Live n c (lent w b t) h
+live_true n c w b t h l = live n c (lent w b t) h true (sym l) refl
 
 pub heads : {n c : ℕ} {w b t : List ℕ} {x y : ℕ} → Admitted n c (lent w b t) x y → (h : ℕ) (q : Listener) → live_in n w h ≡ true → state_of (cell_at w (slot_of h)) ≡ Listening q → (q.head < n) × (q.pending ≤ n) × (n ≤ 1024)
 heads {n} {c} {w} {b} {t} a h q l e =
-    let z = ring-range n c (lent w b t) (known a) h (live-true n c w b t h l) q e in (z.0, z.1, a.few)
+    let z = ring_range n c (lent w b t) (known a) h (live_true n c w b t h l) q e in (z.0, z.1, a.few)
 
-pub entry-room : {n c : ℕ} {w b t : List ℕ} {x y : ℕ} → Admitted n c (lent w b t) x y → (h : ℕ) → live_in n w h ≡ true → (i : ℕ) → i ≡ slot_of h → (w' : List ℕ) → length w' ≡ length w → (p : ℕ) → p < n
+pub entry_room : {n c : ℕ} {w b t : List ℕ} {x y : ℕ} → Admitted n c (lent w b t) x y → (h : ℕ) → live_in n w h ≡ true → (i : ℕ) → i ≡ slot_of h → (w' : List ℕ) → length w' ≡ length w → (p : ℕ) → p < n
     → (i < n) × (p < n) × (8 + 272 * n + n * n ≤ length w')
-entry-room {n} {c} {w} {b} {t} a h l i ei w' lw p hp = let z = (live-true n c w b t h l).within in let y = a.words in (omega arith, hp, omega arith)
+entry_room {n} {c} {w} {b} {t} a h l i ei w' lw p hp = let z = (live_true n c w b t h l).within in let y = a.words in (omega arith, hp, omega arith)
 
-pub lists-room : {n c : ℕ} {s : Store} {x y : ℕ} → Admitted n c s x y → (0 < x) × (0 + 256 ≤ y)
-lists-room a = let w = a.wake-list in let r = a.release-list in let o = a.some-slot in (omega arith, omega arith)
+pub lists_room : {n c : ℕ} {s : Store} {x y : ℕ} → Admitted n c s x y → (0 < x) × (0 + 256 ≤ y)
+lists_room a = let w = a.wake_list in let r = a.release_list in let o = a.some_slot in (omega arith, omega arith)

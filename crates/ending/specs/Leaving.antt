@@ -24,21 +24,21 @@ pub record Ends (n i g : ℕ) (k : Connection) (w w' t wk wk' rl rl' : List ℕ)
   pub words : w' ≡ store_at w i (cell_of g Closed)
   pub wakes : wk' ≡ sets wk d.wakes (peer_in n w k)
   pub releases : rl' ≡ sets rl d.releases (items_in (part (tokens_base i) 256 t) k.inbox)
-  pub wake-count : r.wakes ≡ d.wakes + length (peer_in n w k)
-  pub release-count : r.releases ≡ d.releases + k.inbox.items
+  pub wake_count : r.wakes ≡ d.wakes + length (peer_in n w k)
+  pub release_count : r.releases ≡ d.releases + k.inbox.items
 
 -- an inbox that may be discarded
 pub record Fits (c : ℕ) (k : Connection) : Type 0 where
   pub head_in : k.inbox.head < c
-  pub bytes-in : count k.inbox ≤ c
-  pub first-in : k.inbox.first < 256
+  pub bytes_in : count k.inbox ≤ c
+  pub first_in : k.inbox.first < 256
   pub items-in : k.inbox.items ≤ 256
 
 -- the handle x is of a connected socket
 pub record Serves (n c : ℕ) (w : List ℕ) (x : ℕ) : Type 0 where
   pub within : slot_of x < n
   pub server : Connection
-  pub is-server : state_of (cell_at w (slot_of x)) ≡ Connected server
+  pub is_server : state_of (cell_at w (slot_of x)) ≡ Connected server
   pub fits : Fits c server
 
 -- the connection of a connected socket
@@ -58,9 +58,9 @@ pub record SoFar (n c : ℕ) (s : Store) (hs : List ℕ) (e f : ℕ) (w' wk wk' 
   pub shows : view n c (lent w' s.bytes s.tokens) ≡ (close_all (view n c s) hs).next
   pub around : Around n c s (lent w' s.bytes s.tokens)
   pub rows_are : (j : ℕ) → j < n → Shut hs j (row_at n c s j) (row_at n c (lent w' s.bytes s.tokens) j)
-  pub wakes-are : wk' ≡ sets wk 0 (close_all (view n c s) hs).wakes
-  pub releases-are : rl' ≡ sets rl 0 (close_all (view n c s) hs).releases
-  pub wake-count : d.wakes ≡ length (close_all (view n c s) hs).wakes
-  pub release-count : d.releases ≡ length (close_all (view n c s) hs).releases
-  pub wakes-few : d.wakes ≤ e
-  pub releases-few : d.releases ≤ 256 * f
+  pub wakes_are : wk' ≡ sets wk 0 (close_all (view n c s) hs).wakes
+  pub releases_are : rl' ≡ sets rl 0 (close_all (view n c s) hs).releases
+  pub wake_count : d.wakes ≡ length (close_all (view n c s) hs).wakes
+  pub release_count : d.releases ≡ length (close_all (view n c s) hs).releases
+  pub wakes_few : d.wakes ≤ e
+  pub releases_few : d.releases ≤ 256 * f

@@ -2,7 +2,7 @@
 use Rattle.std.proofs.Common.{◌≡◌, ℕ, suc, ◌-◌, ◌<◌, ◌≤◌, min, true, false, eqb, ltb, leb, ◌≢◌, List, [], ◌∷◌, ◌++◌, map, length, take, drop, replicate, sym, refl, ap, ◌∙◌, subst, not-suc-le-zero, arith, ltb-true, lt-ltb, eq-eqb, ne_eqb, eqb-true, le-leb, leb-true}
 use native.Mathlib.Decide.{dec_lt, ℕ_discrete as dec_eq}
 use borrow.Author.Tests.{eqb-false}
-use Rattle.laws.proofs.Tests.{cond_both, and-three}
+use Rattle.laws.proofs.Tests.{cond_both, and_three}
 use Rattle.rules.specs.Table.{Group}
 use Rattle.rules.specs.Inbox.{is_nil, all_items, group, others, up_to, nearer}
 use Rattle.rules.proofs.InboxOk.{Rising}
@@ -15,23 +15,23 @@ at d its = record { place = d; items = its }
 never : (n : ℕ) → 0 ≢ suc n
 never n e = omega arith
 
-pub rises-parts : (low n d : ℕ) (ds : List ℕ) → rises low n (d ∷ ds) ≡ true → (low ≤ d) × (d < n) × (rises d n ds ≡ true)
+pub rises_parts : (low n d : ℕ) (ds : List ℕ) → rises low n (d ∷ ds) ≡ true → (low ≤ d) × (d < n) × (rises d n ds ≡ true)
 unfolding rises
-rises-parts low n d ds r = let p = and-three (leb low d) (ltb d n) (rises d n ds) r in (leb-true low d p.0, ltb-true d n p.1, p.2)
+rises_parts low n d ds r = let p = and_three (leb low d) (ltb d n) (rises d n ds) r in (leb-true low d p.0, ltb-true d n p.1, p.2)
 
 -- ── All items ──
 
-items-join : (d t : ℕ) (gs : List Group) → all_items (join d t gs) ≡ t ∷ all_items gs
+items_join : (d t : ℕ) (gs : List Group) → all_items (join d t gs) ≡ t ∷ all_items gs
 unfolding join all_items
-items-join d t [] = refl
-items-join d t (g ∷ gs) = cond_both (λ r. all_items r ≡ t ∷ all_items (g ∷ gs)) (eqb g.place d) (λ _. refl) (λ _. refl)
+items_join d t [] = refl
+items_join d t (g ∷ gs) = cond_both (λ r. all_items r ≡ t ∷ all_items (g ∷ gs)) (eqb g.place d) (λ _. refl) (λ _. refl)
 
-pub items-all : (ds ts : List ℕ) → length ts ≤ length ds → all_items (groups_of ds ts) ≡ ts
+pub items_all : (ds ts : List ℕ) → length ts ≤ length ds → all_items (groups_of ds ts) ≡ ts
 unfolding groups_of all_items
-items-all [] [] e = refl
-items-all [] (t ∷ ts) e = absurd (not-suc-le-zero e)
-items-all (d ∷ ds) [] e = refl
-items-all (d ∷ ds) (t ∷ ts) e = items-join d t (groups_of ds ts) ∙ ap (λ (r : List ℕ). t ∷ r) (items-all ds ts (omega arith))
+items_all [] [] e = refl
+items_all [] (t ∷ ts) e = absurd (not-suc-le-zero e)
+items_all (d ∷ ds) [] e = refl
+items_all (d ∷ ds) (t ∷ ts) e = items_join d t (groups_of ds ts) ∙ ap (λ (r : List ℕ). t ∷ r) (items_all ds ts (omega arith))
 
 -- ── A push: one more group, at n, where all others lie below n ──
 
@@ -40,62 +40,62 @@ unfolding join
 join_last d t n its [] h = rw (ne_eqb n d (λ e. omega arith))
 join_last d t n its (g ∷ gs) h = cond_both (λ r. r ≡ join d t (g ∷ gs) ++ at n its ∷ []) (eqb g.place d) (λ e. rw e) (λ e. rw e)
 
-one-group : (n i : ℕ) (its : List ℕ) → groups_of (replicate (suc (length its)) n) (i ∷ its) ≡ at n (i ∷ its) ∷ []
+one_group : (n i : ℕ) (its : List ℕ) → groups_of (replicate (suc (length its)) n) (i ∷ its) ≡ at n (i ∷ its) ∷ []
 unfolding groups_of join
-one-group n i [] = refl
-one-group n i (x ∷ its) = ap (join n i) (one-group n x its) ∙ rw (eq-eqb n n refl)
+one_group n i [] = refl
+one_group n i (x ∷ its) = ap (join n i) (one_group n x its) ∙ rw (eq-eqb n n refl)
 
-pub groups-more : (low n : ℕ) (ds ts : List ℕ) (i : ℕ) (its : List ℕ) → length ds ≡ length ts → rises low n ds ≡ true
+pub groups_more : (low n : ℕ) (ds ts : List ℕ) (i : ℕ) (its : List ℕ) → length ds ≡ length ts → rises low n ds ≡ true
     → groups_of (ds ++ replicate (suc (length its)) n) (ts ++ i ∷ its) ≡ groups_of ds ts ++ at n (i ∷ its) ∷ []
 unfolding groups_of rises
-groups-more low n [] [] i its e r = one-group n i its
-groups-more low n [] (t ∷ ts) i its e r = absurd (never (length ts) e)
-groups-more low n (d ∷ ds) [] i its e r = absurd (never (length ds) (sym e))
-groups-more low n (d ∷ ds) (t ∷ ts) i its e r =
-    let p = rises-parts low n d ds r in
-    ap (join d t) (groups-more d n ds ts i its (omega arith) p.2) ∙ join_last d t n (i ∷ its) (groups_of ds ts) p.1
+groups_more low n [] [] i its e r = one_group n i its
+groups_more low n [] (t ∷ ts) i its e r = absurd (never (length ts) e)
+groups_more low n (d ∷ ds) [] i its e r = absurd (never (length ds) (sym e))
+groups_more low n (d ∷ ds) (t ∷ ts) i its e r =
+    let p = rises_parts low n d ds r in
+    ap (join d t) (groups_more d n ds ts i its (omega arith) p.2) ∙ join_last d t n (i ∷ its) (groups_of ds ts) p.1
 
 -- ── A take: the group at the first byte ──
 
-front-group : (t : ℕ) (gs : List Group) → group (join 0 t gs) ≡ t ∷ group gs
+front_group : (t : ℕ) (gs : List Group) → group (join 0 t gs) ≡ t ∷ group gs
 unfolding join group
-front-group t [] = refl
-front-group t (g ∷ gs) = cond_both (λ r. group r ≡ t ∷ group (g ∷ gs)) (eqb g.place 0) (λ e. rw e) (λ e. rw e)
+front_group t [] = refl
+front_group t (g ∷ gs) = cond_both (λ r. group r ≡ t ∷ group (g ∷ gs)) (eqb g.place 0) (λ e. rw e) (λ e. rw e)
 
-front-others : (t : ℕ) (gs : List Group) → others (join 0 t gs) ≡ others gs
+front_others : (t : ℕ) (gs : List Group) → others (join 0 t gs) ≡ others gs
 unfolding join others
-front-others t [] = refl
-front-others t (g ∷ gs) = cond_both (λ r. others r ≡ others (g ∷ gs)) (eqb g.place 0) (λ e. rw e) (λ e. rw e)
+front_others t [] = refl
+front_others t (g ∷ gs) = cond_both (λ r. others r ≡ others (g ∷ gs)) (eqb g.place 0) (λ e. rw e) (λ e. rw e)
 
-behind-group : (d t : ℕ) (gs : List Group) → eqb d 0 ≡ false → group (join d t gs) ≡ []
+behind_group : (d t : ℕ) (gs : List Group) → eqb d 0 ≡ false → group (join d t gs) ≡ []
 unfolding join group
-behind-group d t [] h = rw h
-behind-group d t (g ∷ gs) h = cond_both (λ r. group r ≡ []) (eqb g.place d) (λ _. rw h) (λ _. rw h)
+behind_group d t [] h = rw h
+behind_group d t (g ∷ gs) h = cond_both (λ r. group r ≡ []) (eqb g.place d) (λ _. rw h) (λ _. rw h)
 
-behind-others : (d t : ℕ) (gs : List Group) → eqb d 0 ≡ false → others (join d t gs) ≡ join d t gs
+behind_others : (d t : ℕ) (gs : List Group) → eqb d 0 ≡ false → others (join d t gs) ≡ join d t gs
 unfolding join others
-behind-others d t [] h = rw h
-behind-others d t (g ∷ gs) h = cond_both (λ r. others r ≡ r) (eqb g.place d) (λ _. rw h) (λ _. rw h)
+behind_others d t [] h = rw h
+behind_others d t (g ∷ gs) h = cond_both (λ r. others r ≡ r) (eqb g.place d) (λ _. rw h) (λ _. rw h)
 
-pub group-is : (ds ts : List ℕ) → length ds ≡ length ts → group (groups_of ds ts) ≡ take (front ds) ts
+pub group_is : (ds ts : List ℕ) → length ds ≡ length ts → group (groups_of ds ts) ≡ take (front ds) ts
 unfolding groups_of front group
-group-is [] ts e = refl
-group-is (d ∷ ds) [] e = absurd (never (length ds) (sym e))
-group-is (d ∷ ds) (t ∷ ts) e =
+group_is [] ts e = refl
+group_is (d ∷ ds) [] e = absurd (never (length ds) (sym e))
+group_is (d ∷ ds) (t ∷ ts) e =
     cond_both (λ (k : ℕ). group (join d t (groups_of ds ts)) ≡ take k (t ∷ ts)) (eqb d 0)
     (λ z.
     let zd : d ≡ 0 = eqb-true d 0 z in
-    ap (λ (x : ℕ). group (join x t (groups_of ds ts))) zd ∙ front-group t (groups_of ds ts) ∙ ap (λ (r : List ℕ). t ∷ r) (group-is ds ts (omega arith)))
-    (λ z. behind-group d t (groups_of ds ts) z)
+    ap (λ (x : ℕ). group (join x t (groups_of ds ts))) zd ∙ front_group t (groups_of ds ts) ∙ ap (λ (r : List ℕ). t ∷ r) (group_is ds ts (omega arith)))
+    (λ z. behind_group d t (groups_of ds ts) z)
 
-pub others-are : (ds ts : List ℕ) → length ds ≡ length ts → others (groups_of ds ts) ≡ groups_of (drop (front ds) ds) (drop (front ds) ts)
+pub others_are : (ds ts : List ℕ) → length ds ≡ length ts → others (groups_of ds ts) ≡ groups_of (drop (front ds) ds) (drop (front ds) ts)
 unfolding groups_of front others
-others-are [] ts e = refl
-others-are (d ∷ ds) [] e = absurd (never (length ds) (sym e))
-others-are (d ∷ ds) (t ∷ ts) e =
+others_are [] ts e = refl
+others_are (d ∷ ds) [] e = absurd (never (length ds) (sym e))
+others_are (d ∷ ds) (t ∷ ts) e =
     cond_both (λ (k : ℕ). others (join d t (groups_of ds ts)) ≡ groups_of (drop k (d ∷ ds)) (drop k (t ∷ ts))) (eqb d 0)
-    (λ z. let zd : d ≡ 0 = eqb-true d 0 z in ap (λ (x : ℕ). others (join x t (groups_of ds ts))) zd ∙ front-others t (groups_of ds ts) ∙ others-are ds ts (omega arith))
-    (λ z. behind-others d t (groups_of ds ts) z)
+    (λ z. let zd : d ≡ 0 = eqb-true d 0 z in ap (λ (x : ℕ). others (join x t (groups_of ds ts))) zd ∙ front_others t (groups_of ds ts) ∙ others_are ds ts (omega arith))
+    (λ z. behind_others d t (groups_of ds ts) z)
 
 -- ── The distance to the next group ──
 
@@ -116,50 +116,50 @@ abbrev From : ℕ → List Group → Type 0
 From k [] = Unit {0}
 From k (g ∷ gs) = k ≤ g.place
 
-join-from : (k d t : ℕ) (gs : List Group) → k ≤ d → From k (join d t gs)
+join_from : (k d t : ℕ) (gs : List Group) → k ≤ d → From k (join d t gs)
 unfolding join
-join-from k d t [] h = h
-join-from k d t (g ∷ gs) h = cond_both (λ r. From k r) (eqb g.place d) (λ _. h) (λ _. h)
+join_from k d t [] h = h
+join_from k d t (g ∷ gs) h = cond_both (λ r. From k r) (eqb g.place d) (λ _. h) (λ _. h)
 
-same-shift : (a b k : ℕ) → k ≤ a → k ≤ b → eqb (a - k) (b - k) ≡ eqb a b
-same-shift a b k ha hb =
+same_shift : (a b k : ℕ) → k ≤ a → k ≤ b → eqb (a - k) (b - k) ≡ eqb a b
+same_shift a b k ha hb =
     elim (dec_eq a b) [
       | yes e ↦ let z : a - k ≡ b - k = omega arith in eq-eqb (a - k) (b - k) z ∙ sym (eq-eqb a b e)
       | no ne ↦ ne_eqb (a - k) (b - k) (λ z. ne (omega arith)) ∙ sym (ne_eqb a b ne)
     ]
 
-shift-join : (k d t : ℕ) (gs : List Group) → k ≤ d → From k gs → map (nearer k) (join d t gs) ≡ join (d - k) t (map (nearer k) gs)
+shift_join : (k d t : ℕ) (gs : List Group) → k ≤ d → From k gs → map (nearer k) (join d t gs) ≡ join (d - k) t (map (nearer k) gs)
 unfolding join nearer
-shift-join k d t [] h f = refl
-shift-join k d t (g ∷ gs) h f =
+shift_join k d t [] h f = refl
+shift_join k d t (g ∷ gs) h f =
     cond_both (λ r. map (nearer k) r ≡ join (d - k) t (map (nearer k) (g ∷ gs))) (eqb g.place d)
-    (λ e. rw (same-shift g.place d k f h, e))
-    (λ e. rw (same-shift g.place d k f h, e))
+    (λ e. rw (same_shift g.place d k f h, e))
+    (λ e. rw (same_shift g.place d k f h, e))
 
-groups-from : (k low n : ℕ) (ds ts : List ℕ) → k ≤ low → rises low n ds ≡ true → From k (groups_of ds ts)
+groups_from : (k low n : ℕ) (ds ts : List ℕ) → k ≤ low → rises low n ds ≡ true → From k (groups_of ds ts)
 unfolding groups_of rises
-groups-from k low n [] ts h r = tt
-groups-from k low n (d ∷ ds) [] h r = tt
-groups-from k low n (d ∷ ds) (t ∷ ts) h r = let p = rises-parts low n d ds r in join-from k d t (groups_of ds ts) (omega arith)
+groups_from k low n [] ts h r = tt
+groups_from k low n (d ∷ ds) [] h r = tt
+groups_from k low n (d ∷ ds) (t ∷ ts) h r = let p = rises_parts low n d ds r in join_from k d t (groups_of ds ts) (omega arith)
 
-pub groups-nearer : (k low n : ℕ) (ds ts : List ℕ) → k ≤ low → rises low n ds ≡ true → map (nearer k) (groups_of ds ts) ≡ groups_of (map (λ d. d - k) ds) ts
+pub groups_nearer : (k low n : ℕ) (ds ts : List ℕ) → k ≤ low → rises low n ds ≡ true → map (nearer k) (groups_of ds ts) ≡ groups_of (map (λ d. d - k) ds) ts
 unfolding groups_of rises
-groups-nearer k low n [] ts h r = refl
-groups-nearer k low n (d ∷ ds) [] h r = refl
-groups-nearer k low n (d ∷ ds) (t ∷ ts) h r =
-    let p = rises-parts low n d ds r in
-    shift-join k d t (groups_of ds ts) (omega arith) (groups-from k d n ds ts (omega arith) p.2)
-    ∙ ap (join (d - k) t) (groups-nearer k d n ds ts (omega arith) p.2)
+groups_nearer k low n [] ts h r = refl
+groups_nearer k low n (d ∷ ds) [] h r = refl
+groups_nearer k low n (d ∷ ds) (t ∷ ts) h r =
+    let p = rises_parts low n d ds r in
+    shift_join k d t (groups_of ds ts) (omega arith) (groups_from k d n ds ts (omega arith) p.2)
+    ∙ ap (join (d - k) t) (groups_nearer k d n ds ts (omega arith) p.2)
 
 -- ── Rising, both ways ──
 
 apart : (a b : ℕ) → b ≤ a → (a ≡ b → ⊥) → suc b ≤ a
 apart a b h ne = elim (dec_lt b a) [ yes p ↦ p | no q ↦ absurd (ne (omega arith)) ]
 
-rising-join : (low n d t : ℕ) (gs : List Group) → low ≤ d → d < n → Rising d n gs → Rising low n (join d t gs)
+rising_join : (low n d t : ℕ) (gs : List Group) → low ≤ d → d < n → Rising d n gs → Rising low n (join d t gs)
 unfolding join is_nil
-rising-join low n d t [] l u r = (l, u, refl, tt)
-rising-join low n d t (g ∷ gs) l u r =
+rising_join low n d t [] l u r = (l, u, refl, tt)
+rising_join low n d t (g ∷ gs) l u r =
     cond_both (λ x. Rising low n x) (eqb g.place d)
     (λ e. (l, u, refl, subst (λ (x : ℕ). Rising (suc x) n gs) (eqb-true g.place d e) r.3))
     (λ e. (l, u, refl, (apart g.place d r.0 (eqb-false g.place d e), r.1, r.2, r.3)))
@@ -169,8 +169,8 @@ unfolding groups_of rises
 rising low n [] ts r = tt
 rising low n (d ∷ ds) [] r = tt
 rising low n (d ∷ ds) (t ∷ ts) r =
-    let p = rises-parts low n d ds r in
-    rising-join low n d t (groups_of ds ts) p.0 p.1 (rising d n ds ts p.2)
+    let p = rises_parts low n d ds r in
+    rising_join low n d t (groups_of ds ts) p.0 p.1 (rising d n ds ts p.2)
 
 -- the places alone
 abbrev Places : ℕ → ℕ → List Group → Type 0
@@ -185,10 +185,10 @@ lower : (low low' n : ℕ) (gs : List Group) → low' ≤ low → Places low n g
 lower low low' n [] l r = tt
 lower low low' n (g ∷ gs) l r = (let z = r.0 in omega arith, r.1, r.2)
 
-place-parts : (low n d t : ℕ) (gs : List Group) → Places low n (join d t gs) → (low ≤ d) × (d < n) × Places d n gs
+place_parts : (low n d t : ℕ) (gs : List Group) → Places low n (join d t gs) → (low ≤ d) × (d < n) × Places d n gs
 unfolding join
-place-parts low n d t [] = λ r. (r.0, r.1, tt)
-place-parts low n d t (g ∷ gs) =
+place_parts low n d t [] = λ r. (r.0, r.1, tt)
+place_parts low n d t (g ∷ gs) =
     cond_both (λ x. Places low n x → (low ≤ d) × (d < n) × Places d n (g ∷ gs)) (eqb g.place d)
     (λ e r.
     let z : g.place ≡ d = eqb-true g.place d e in
@@ -196,13 +196,13 @@ place-parts low n d t (g ∷ gs) =
     (r.0, r.1, (omega arith, omega arith, subst (λ (x : ℕ). Places (suc x) n gs) (sym z) r.2)))
     (λ e r. (r.0, r.1, lower (suc d) d n (g ∷ gs) (omega arith) r.2))
 
-place-rises : (low n : ℕ) (ds ts : List ℕ) → length ds ≡ length ts → Places low n (groups_of ds ts) → rises low n ds ≡ true
+place_rises : (low n : ℕ) (ds ts : List ℕ) → length ds ≡ length ts → Places low n (groups_of ds ts) → rises low n ds ≡ true
 unfolding groups_of rises
-place-rises low n [] ts e r = refl
-place-rises low n (d ∷ ds) [] e r = absurd (never (length ds) (sym e))
-place-rises low n (d ∷ ds) (t ∷ ts) e r =
-    let p = place-parts low n d t (groups_of ds ts) r in
-    rw (le-leb low d p.0, lt-ltb d n p.1) (place-rises d n ds ts (omega arith) p.2)
+place_rises low n [] ts e r = refl
+place_rises low n (d ∷ ds) [] e r = absurd (never (length ds) (sym e))
+place_rises low n (d ∷ ds) (t ∷ ts) e r =
+    let p = place_parts low n d t (groups_of ds ts) r in
+    rw (le-leb low d p.0, lt-ltb d n p.1) (place_rises d n ds ts (omega arith) p.2)
 
-pub rises-if : (low n : ℕ) (ds ts : List ℕ) → length ds ≡ length ts → Rising low n (groups_of ds ts) → rises low n ds ≡ true
-rises-if low n ds ts e r = place-rises low n ds ts e (places low n (groups_of ds ts) r)
+pub rises_if : (low n : ℕ) (ds ts : List ℕ) → length ds ≡ length ts → Rising low n (groups_of ds ts) → rises low n ds ≡ true
+rises_if low n ds ts e r = place_rises low n ds ts e (places low n (groups_of ds ts) r)

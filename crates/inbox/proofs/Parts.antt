@@ -4,9 +4,9 @@ use lib.ListN.{get_or-map}
 use lib.Seq.{sets, sets-eq, paste, take-length, drop-nil, drop-length}
 use borrow.Author.Tests.{lt-leb}
 use Rattle.ring.specs.Ring.{place_of, queued, whole}
-use Rattle.ring.proofs.Queued.{queued-length, queued-take, queued-drop, queued-at}
-use Rattle.ring.proofs.Copying.{place-low, place-high, place_is}
-use Rattle.laws.proofs.Tests.{less-or}
+use Rattle.ring.proofs.Queued.{queued-length, queued-take, queued-drop, queued_at}
+use Rattle.ring.proofs.Copying.{place_low, place_high, place_is}
+use Rattle.laws.proofs.Tests.{less_or}
 use Rattle.rules.specs.Inbox.{group, moved}
 use Rattle.rules.specs.Moving.{handed, released, flags_of}
 use Rattle.inbox.specs.View.{dist, count, items_in, distances, groups_of, view, front, nearest}
@@ -15,8 +15,8 @@ use Rattle.inbox.specs.Promise.{push_no, MayPush, come_on, Pushes, policy_of, Ta
 use Rattle.inbox.specs.declared.Inbox.{Inbox}
 use Rattle.inbox.specs.declared.AttachedItems.{AttachedItems}
 use Rattle.inbox.specs.declared.AttachedItems.TheVariants.{Take, Drop}
-use Rattle.inbox.proofs.Offsets.{dist-meets, dist_same, dist-zero}
-use Rattle.inbox.proofs.Shows.{length-distances, push-shows, moved-is, reach-le, bytes-first, take-least, take-shows, taken-group}
+use Rattle.inbox.proofs.Offsets.{dist_meets, dist_same, dist-zero}
+use Rattle.inbox.proofs.Shows.{length-distances, push_shows, moved_is, reach_le, bytes_first, take-least, take-shows, taken_group}
 
 never : (n : ℕ) → suc n ≢ 0
 never n e = omega arith
@@ -30,12 +30,12 @@ some r c n e h ne = let z = positive r ne in omega arith
 
 -- ── The rings of the items ──
 
-pub place-mod : (k : ℕ) → k < 512 → (k % 256 ≡ place_of 256 k) × (k % 256 < 256)
-place-mod k h = go (less-or k 256)
+pub place_mod : (k : ℕ) → k < 512 → (k % 256 ≡ place_of 256 k) × (k % 256 < 256)
+place_mod k h = go (less_or k 256)
   where
     go : (k < 256) ⊎ (256 ≤ k) → (k % 256 ≡ place_of 256 k) × (k % 256 < 256)
-    go (inl l) = let e : k % 256 ≡ k = omega arith in (e ∙ (place-low 256 k l).0, omega arith)
-    go (inr g) = let e : k % 256 ≡ k - 256 = omega arith in (e ∙ (place-high 256 k g (omega arith)).0, omega arith)
+    go (inl l) = let e : k % 256 ≡ k = omega arith in (e ∙ (place_low 256 k l).0, omega arith)
+    go (inr g) = let e : k % 256 ≡ k - 256 = omega arith in (e ∙ (place_high 256 k g (omega arith)).0, omega arith)
 
 -- ── The policy ──
 
@@ -47,13 +47,13 @@ pub handed-drop : (p : AttachedItems) (g n : ℕ) → p ≡ Drop → 0 ≡ hande
 unfolding handed_of
 handed-drop p g n e = rw e
 
-pub flags-more : (p : AttachedItems) (g m : ℕ) → p ≡ Take → m < g → 8 ≡ flags_for p g m
+pub flags_more : (p : AttachedItems) (g m : ℕ) → p ≡ Take → m < g → 8 ≡ flags_for p g m
 unfolding flags_for
-flags-more p g m e h = rw (e, lt-ltb m g h)
+flags_more p g m e h = rw (e, lt-ltb m g h)
 
-pub flags-all : (p : AttachedItems) (g m : ℕ) → p ≡ Take → g ≤ m → 0 ≡ flags_for p g m
+pub flags_all : (p : AttachedItems) (g m : ℕ) → p ≡ Take → g ≤ m → 0 ≡ flags_for p g m
 unfolding flags_for
-flags-all p g m e h = rw (e, le-ltb m g h)
+flags_all p g m e h = rw (e, le-ltb m g h)
 
 pub flags-drop : (p : AttachedItems) (g m : ℕ) → p ≡ Drop → 0 ≡ flags_for p g m
 unfolding flags_for
@@ -62,28 +62,28 @@ flags-drop p g m e = rw e
 -- ── The lists ──
 
 -- all of a list, stored from a place on
-pub pasted-all : (l xs : List ℕ) (at k : ℕ) → length xs ≡ k → at + k ≤ length l → paste l at xs k ≡ sets l at xs
-pasted-all l xs at k e h =
+pub pasted_all : (l xs : List ℕ) (at k : ℕ) → length xs ≡ k → at + k ≤ length l → paste l at xs k ≡ sets l at xs
+pasted_all l xs at k e h =
     ap (λ (x : ℕ). paste l at xs x) (sym e) ∙ ap (λ (x : List ℕ). take at l ++ x ++ drop (at + length xs) l) (take-length xs) ∙ sym (sets-eq xs l at (omega arith))
 
-pub handed-over : (tokens items items' releases releases' : List ℕ) (first g m p : ℕ) → length tokens ≡ 256 → first < 256 → m ≤ g → g ≤ 256 → m ≤ length items → 256 ≤ length releases
+pub handed_over : (tokens items items' releases releases' : List ℕ) (first g m p : ℕ) → length tokens ≡ 256 → first < 256 → m ≤ g → g ≤ 256 → m ≤ length items → 256 ≤ length releases
     → items' ≡ paste items 0 (queued tokens first m) m → p ≡ place_of 256 (first + m) → releases' ≡ paste releases 0 (queued tokens p (g - m)) (g - m)
     → p < 256 → Hands (queued tokens first g) m items items' releases releases'
-handed-over tokens items items' releases releases' first g m p l hf hm hg hi hr ei ep er hp =
+handed_over tokens items items' releases releases' first g m p l hf hm hg hi hr ei ep er hp =
     record {
       hands =
-          ei ∙ pasted-all items (queued tokens first m) 0 m (queued-length tokens first (omega arith) m (omega arith)) (omega arith)
+          ei ∙ pasted_all items (queued tokens first m) 0 m (queued-length tokens first (omega arith) m (omega arith)) (omega arith)
           ∙ ap (sets items 0) (sym (queued-take tokens first (omega arith) m g hm));
-      releases-it =
-          er ∙ pasted-all releases (queued tokens p (g - m)) 0 (g - m) (queued-length tokens p (omega arith) (g - m) (omega arith)) (omega arith)
+      releases_it =
+          er ∙ pasted_all releases (queued tokens p (g - m)) 0 (g - m) (queued-length tokens p (omega arith) (g - m) (omega arith)) (omega arith)
           ∙ ap (sets releases 0) (sym (queued-drop tokens first m g p (omega arith) hm (omega arith) (rw l (place_is 256 (first + m) p ep))));
     }
 
 -- ── The numbers ──
 
-pub gone-on : (c : ℕ) (q : Inbox) (k g h t f : ℕ) → h ≡ place_of c (q.head + k) → t ≡ (q.read_total + k) % 2 ^ 64 → f ≡ place_of 256 (q.first + g)
+pub gone_on : (c : ℕ) (q : Inbox) (k g h t f : ℕ) → h ≡ place_of c (q.head + k) → t ≡ (q.read_total + k) % 2 ^ 64 → f ≡ place_of 256 (q.first + g)
     → ◌≡◌ {A = Inbox} (record { head = h; written_total = q.written_total; read_total = t; first = f; items = q.items - g }) (move_on c q k g)
-gone-on c q k g h t f eh et ef = rw (eh, et, ef)
+gone_on c q k g h t f eh et ef = rw (eh, et, ef)
 
 pub discarded : (c : ℕ) (tokens releases releases' : List ℕ) (at n : ℕ) (q i : Inbox) → q.first < 256 → q.items ≤ 256 → length tokens ≡ 256 → at + q.items ≤ length releases
     → q.written_total < 2 ^ 64 → releases' ≡ paste releases at (queued tokens q.first q.items) q.items → n ≡ count q → i ≡ move_on c q n q.items
@@ -91,47 +91,47 @@ pub discarded : (c : ℕ) (tokens releases releases' : List ℕ) (at n : ℕ) (q
 unfolding items_in
 discarded c tokens releases releases' at n q i hf hi l hr big er en ei =
     record {
-      released-are = refl;
-      releases-it = er ∙ pasted-all releases (queued tokens q.first q.items) at q.items (queued-length tokens q.first (omega arith) q.items (omega arith)) hr;
+      released_are = refl;
+      releases_it = er ∙ pasted_all releases (queued tokens q.first q.items) at q.items (queued-length tokens q.first (omega arith) q.items (omega arith)) hr;
       numbers = ei ∙ ap (λ (x : ℕ). move_on c q x q.items) en;
-      meet = ap (λ (x : Inbox). x.read_total) ei ∙ ap (λ (x : ℕ). (q.read_total + x) % 2 ^ 64) en ∙ dist-meets q.written_total q.read_total big ∙ sym (ap (λ (x : Inbox). x.written_total) ei);
+      meet = ap (λ (x : Inbox). x.read_total) ei ∙ ap (λ (x : ℕ). (q.read_total + x) % 2 ^ 64) en ∙ dist_meets q.written_total q.read_total big ∙ sym (ap (λ (x : Inbox). x.written_total) ei);
     }
 
 -- ── The places, one at a time ──
 
 module _ (q : Inbox) (places : List ℕ) (i p : ℕ) (l : length places ≡ 256) (hf : q.first < 256) (hi : q.items ≤ 256) (hg : i < q.items) (ep : p ≡ place_of 256 (q.first + i)) where
   -- the distance of item i
-  pub distance-at : get_or (distances q places) i (dist 0 q.read_total) ≡ dist (get_or places p 0) q.read_total
+  pub distance_at : get_or (distances q places) i (dist 0 q.read_total) ≡ dist (get_or places p 0) q.read_total
   unfolding distances
-  distance-at =
+  distance_at =
       get_or-map (λ x. dist x q.read_total) (queued places q.first q.items) i 0
-      ∙ ap (λ (x : ℕ). dist x q.read_total) (queued-at places q.first (omega arith) q.items i p hg (omega arith) (rw l (place_is 256 (q.first + i) p ep)))
+      ∙ ap (λ (x : ℕ). dist x q.read_total) (queued_at places q.first (omega arith) q.items i p hg (omega arith) (rw l (place_is 256 (q.first + i) p ep)))
 
   -- what is left starts with it
   pub left_at : drop i (distances q places) ≡ dist (get_or places p 0) q.read_total ∷ drop (i + 1) (distances q places)
   left_at =
       drop-cons (distances q places) i (dist 0 q.read_total) (omega (arith, length-distances places q l hf hi))
-      ∙ ap₂ (λ (x : ℕ) (k : ℕ). x ∷ drop k (distances q places)) distance-at (sym (add-one i))
+      ∙ ap₂ (λ (x : ℕ) (k : ℕ). x ∷ drop k (distances q places)) distance_at (sym (add-one i))
 
   -- at the first byte, and not
-  pub front-more : get_or places p 0 ≡ q.read_total → front (drop i (distances q places)) ≡ suc (front (drop (i + 1) (distances q places)))
+  pub front_more : get_or places p 0 ≡ q.read_total → front (drop i (distances q places)) ≡ suc (front (drop (i + 1) (distances q places)))
   unfolding front
-  front-more e =
+  front_more e =
       let z : dist (get_or places p 0) q.read_total ≡ 0 = ap (λ (x : ℕ). dist x q.read_total) e ∙ dist_same q.read_total in
       ap front left_at ∙ rw (eq-eqb _ 0 z)
 
-  pub front-stops : get_or places p 0 < 2 ^ 64 → q.read_total < 2 ^ 64 → (get_or places p 0 ≡ q.read_total → ⊥) → front (drop i (distances q places)) ≡ 0
+  pub front_stops : get_or places p 0 < 2 ^ 64 → q.read_total < 2 ^ 64 → (get_or places p 0 ≡ q.read_total → ⊥) → front (drop i (distances q places)) ≡ 0
   unfolding front
-  front-stops ha hb ne = ap front left_at ∙ rw (ne_eqb (dist (get_or places p 0) q.read_total) 0 (λ z. ne (dist-zero (get_or places p 0) q.read_total ha hb z)))
+  front_stops ha hb ne = ap front left_at ∙ rw (ne_eqb (dist (get_or places p 0) q.read_total) 0 (λ z. ne (dist-zero (get_or places p 0) q.read_total ha hb z)))
 
-  pub nearest-at : (n : ℕ) → nearest n (drop i (distances q places)) ≡ dist (get_or places p 0) q.read_total
+  pub nearest_at : (n : ℕ) → nearest n (drop i (distances q places)) ≡ dist (get_or places p 0) q.read_total
   unfolding nearest
-  nearest-at n = ap (nearest n) left_at
+  nearest_at n = ap (nearest n) left_at
 
-  pub rises-at : (low n : ℕ) → rises low n (drop i (distances q places))
+  pub rises_at : (low n : ℕ) → rises low n (drop i (distances q places))
       ≡ leb low (dist (get_or places p 0) q.read_total) && ltb (dist (get_or places p 0) q.read_total) n && rises (dist (get_or places p 0) q.read_total) n (drop (i + 1) (distances q places))
   unfolding rises
-  rises-at low n = ap (rises low n) left_at
+  rises_at low n = ap (rises low n) left_at
 
 drop_past : (n : ℕ) (l : List ℕ) → length l ≤ n → drop n l ≡ []
 drop_past n [] h = drop-nil n
@@ -139,8 +139,8 @@ drop_past zero (x ∷ l) h = absurd (not-suc-le-zero h)
 drop_past (suc n) (x ∷ l) h = drop_past n l (omega arith)
 
 -- none is left
-pub left-none : (q : Inbox) (places : List ℕ) (i : ℕ) → length places ≡ 256 → q.first < 256 → q.items ≤ 256 → q.items ≤ i → drop i (distances q places) ≡ []
-left-none q places i l hf hi hg = drop_past i (distances q places) (omega (arith, length-distances places q l hf hi))
+pub left_none : (q : Inbox) (places : List ℕ) (i : ℕ) → length places ≡ 256 → q.first < 256 → q.items ≤ 256 → q.items ≤ i → drop i (distances q places) ≡ []
+left_none q places i l hf hi hg = drop_past i (distances q places) (omega (arith, length-distances places q l hf hi))
 
 -- ── The refusals of a push ──
 
@@ -168,49 +168,49 @@ module _ (c n d m i r : ℕ) (er : r ≡ c - n) (fits : n ≤ c) where
 -- ── The check ──
 
 module _ (c : ℕ) (places : List ℕ) (q : Inbox) where
-  pub head-out : c ≤ q.head → false ≡ is_well c places q
+  pub head_out : c ≤ q.head → false ≡ is_well c places q
   unfolding is_well
-  head-out h = rw (le-ltb q.head c h)
+  head_out h = rw (le-ltb q.head c h)
 
-  pub too-full : (n : ℕ) → n ≡ count q → q.head < c → c < n → false ≡ is_well c places q
+  pub too_full : (n : ℕ) → n ≡ count q → q.head < c → c < n → false ≡ is_well c places q
   unfolding is_well
-  too-full n e h k = rw (lt-ltb q.head c h, lt-leb (count q) c (omega arith))
+  too_full n e h k = rw (lt-ltb q.head c h, lt-leb (count q) c (omega arith))
 
   pub first_out : (n : ℕ) → n ≡ count q → q.head < c → n ≤ c → 256 ≤ q.first → false ≡ is_well c places q
   unfolding is_well
   first_out n e h k f = rw (lt-ltb q.head c h, le-leb (count q) c (omega arith), le-ltb q.first 256 f)
 
-  pub items-out : (n : ℕ) → n ≡ count q → q.head < c → n ≤ c → q.first < 256 → 256 < q.items → false ≡ is_well c places q
+  pub items_out : (n : ℕ) → n ≡ count q → q.head < c → n ≤ c → q.first < 256 → 256 < q.items → false ≡ is_well c places q
   unfolding is_well
-  items-out n e h k f i = rw (lt-ltb q.head c h, le-leb (count q) c (omega arith), lt-ltb q.first 256 f, lt-leb q.items 256 i)
+  items_out n e h k f i = rw (lt-ltb q.head c h, le-leb (count q) c (omega arith), lt-ltb q.first 256 f, lt-leb q.items 256 i)
 
-  pub as-rising : (n : ℕ) (r : Bool) → n ≡ count q → q.head < c → n ≤ c → q.first < 256 → q.items ≤ 256 → r ≡ rises 0 (count q) (distances q places) → r ≡ is_well c places q
+  pub as_rising : (n : ℕ) (r : Bool) → n ≡ count q → q.head < c → n ≤ c → q.first < 256 → q.items ≤ 256 → r ≡ rises 0 (count q) (distances q places) → r ≡ is_well c places q
   unfolding is_well
-  as-rising n r e h k f i er = rw (lt-ltb q.head c h, le-leb (count q) c (omega arith), lt-ltb q.first 256 f, le-leb q.items 256 i) er
+  as_rising n r e h k f i er = rw (lt-ltb q.head c h, le-leb (count q) c (omega arith), lt-ltb q.first 256 f, le-leb q.items 256 i) er
 
 -- ── The count of the group ──
 
 module _ (q : Inbox) (places : List ℕ) (i : ℕ) (l : length places ≡ 256) (hf : q.first < 256) (hi : q.items ≤ 256) where
   module _ (p : ℕ) (hg : i < q.items) (ep : p ≡ place_of 256 (q.first + i)) (so : front (distances q places) ≡ i + front (drop i (distances q places))) where
-    pub group-goes-on : get_or places p 0 ≡ q.read_total → front (distances q places) ≡ i + 1 + front (drop (i + 1) (distances q places))
-    group-goes-on e = let z = front-more q places i p l hf hi hg ep e in omega arith
+    pub group_goes_on : get_or places p 0 ≡ q.read_total → front (distances q places) ≡ i + 1 + front (drop (i + 1) (distances q places))
+    group_goes_on e = let z = front_more q places i p l hf hi hg ep e in omega arith
 
-    pub group-stops : get_or places p 0 < 2 ^ 64 → q.read_total < 2 ^ 64 → (get_or places p 0 ≡ q.read_total → ⊥) → (i ≡ front (distances q places)) × (i ≤ q.items)
-    group-stops ha hb ne = let z = front-stops q places i p l hf hi hg ep ha hb ne in (omega arith, omega arith)
+    pub group_stops : get_or places p 0 < 2 ^ 64 → q.read_total < 2 ^ 64 → (get_or places p 0 ≡ q.read_total → ⊥) → (i ≡ front (distances q places)) × (i ≤ q.items)
+    group_stops ha hb ne = let z = front_stops q places i p l hf hi hg ep ha hb ne in (omega arith, omega arith)
 
-  pub group-ends : q.items ≤ i → i ≤ q.items → front (distances q places) ≡ i + front (drop i (distances q places)) → (q.items ≡ front (distances q places)) × (q.items ≤ q.items)
+  pub group_ends : q.items ≤ i → i ≤ q.items → front (distances q places) ≡ i + front (drop i (distances q places)) → (q.items ≡ front (distances q places)) × (q.items ≤ q.items)
   unfolding front
-  group-ends h k so = let z = ap front (left-none q places i l hf hi h) in (omega arith, omega arith)
+  group_ends h k so = let z = ap front (left_none q places i l hf hi h) in (omega arith, omega arith)
 
 -- ── The distance to the next group ──
 
-pub reach-next : (q : Inbox) (places : List ℕ) (g p n r : ℕ) → length places ≡ 256 → q.first < 256 → q.items ≤ 256 → g < q.items → p ≡ place_of 256 (q.first + g)
+pub reach_next : (q : Inbox) (places : List ℕ) (g p n r : ℕ) → length places ≡ 256 → q.first < 256 → q.items ≤ 256 → g < q.items → p ≡ place_of 256 (q.first + g)
     → r ≡ dist (get_or places p 0) q.read_total → r ≡ nearest n (drop g (distances q places))
-reach-next q places g p n r l hf hi hg ep er = er ∙ sym (nearest-at q places g p l hf hi hg ep n)
+reach_next q places g p n r l hf hi hg ep er = er ∙ sym (nearest_at q places g p l hf hi hg ep n)
 
-pub reach-end : (q : Inbox) (places : List ℕ) (g n r : ℕ) → length places ≡ 256 → q.first < 256 → q.items ≤ 256 → q.items ≤ g → r ≡ n → r ≡ nearest n (drop g (distances q places))
+pub reach_end : (q : Inbox) (places : List ℕ) (g n r : ℕ) → length places ≡ 256 → q.first < 256 → q.items ≤ 256 → q.items ≤ g → r ≡ n → r ≡ nearest n (drop g (distances q places))
 unfolding nearest
-reach-end q places g n r l hf hi hg er = er ∙ sym (ap (nearest n) (left-none q places g l hf hi hg))
+reach_end q places g n r l hf hi hg er = er ∙ sym (ap (nearest n) (left_none q places g l hf hi hg))
 
 -- ── The check of the places ──
 
@@ -219,11 +219,11 @@ module _ (q : Inbox) (places : List ℕ) (i low n p d : ℕ) (l : length places 
   where
     next : rises low n (drop i (distances q places)) ≡ leb low d && ltb d n && rises d n (drop (i + 1) (distances q places))
     next =
-        rises-at q places i p l hf hi hg ep low n
+        rises_at q places i p l hf hi hg ep low n
         ∙ ap (λ (x : ℕ). leb low x && ltb x n && rises x n (drop (i + 1) (distances q places))) (sym ed)
 
-    pub rises-on : low ≤ d → d < n → rises low n (drop i (distances q places)) ≡ rises d n (drop (i + 1) (distances q places))
-    rises-on a b = next ∙ rw (le-leb low d a, lt-ltb d n b)
+    pub rises_on : low ≤ d → d < n → rises low n (drop i (distances q places)) ≡ rises d n (drop (i + 1) (distances q places))
+    rises_on a b = next ∙ rw (le-leb low d a, lt-ltb d n b)
 
     pub falls : d < low → false ≡ rises low n (drop i (distances q places))
     falls a = sym (next ∙ rw (lt-leb low d a))
@@ -231,16 +231,16 @@ module _ (q : Inbox) (places : List ℕ) (i low n p d : ℕ) (l : length places 
     pub beyond : low ≤ d → n ≤ d → false ≡ rises low n (drop i (distances q places))
     beyond a b = sym (next ∙ rw (le-leb low d a, le-ltb d n b))
 
-pub rises-end : (q : Inbox) (places : List ℕ) (i low n : ℕ) → length places ≡ 256 → q.first < 256 → q.items ≤ 256 → q.items ≤ i → true ≡ rises low n (drop i (distances q places))
+pub rises_end : (q : Inbox) (places : List ℕ) (i low n : ℕ) → length places ≡ 256 → q.first < 256 → q.items ≤ 256 → q.items ≤ i → true ≡ rises low n (drop i (distances q places))
 unfolding rises
-rises-end q places i low n l hf hi hg = sym (ap (rises low n) (left-none q places i l hf hi hg))
+rises_end q places i low n l hf hi hg = sym (ap (rises low n) (left_none q places i l hf hi hg))
 
 -- ── push, take ──
 
-pub may-fit : (c n d m i : ℕ) → push_no c n d m i ≡ 0 → m ≤ 256 → m + i ≤ 256
+pub may_fit : (c n d m i : ℕ) → push_no c n d m i ≡ 0 → m ≤ 256 → m + i ≤ 256
 unfolding push_no
-may-fit c n d m zero e h = omega arith
-may-fit c n d m (suc i) e h = go (leb c n) (eqb d 0) (ltb 256 (m + suc i)) refl (rw (lt-ltb 0 (suc i) (omega arith)) at e)
+may_fit c n d m zero e h = omega arith
+may_fit c n d m (suc i) e h = go (leb c n) (eqb d 0) (ltb 256 (m + suc i)) refl (rw (lt-ltb 0 (suc i) (omega arith)) at e)
   where
     go : (x y z : Bool) → ltb 256 (m + suc i) ≡ z → ◌≡◌ {A = ℕ} (cond x 8 (cond (true && y) 2 (cond (true && z) 11 0))) 0 → m + suc i ≤ 256
     go true y z ez e = absurd (never 7 e)
@@ -266,23 +266,23 @@ pushes ring ring' places places' tokens tokens' buf items q k n room t w may big
       moves = ek';
       shows =
           ap (view ring' places' tokens') numbers
-          ∙ push-shows ring ring' places places' tokens tokens' buf items q k w big lr lp (lp' ∙ lp) lt (lt' ∙ lt) (may-fit (length ring) (count q) (length buf) q.items (length items) may w.items-in) ek' er' ep et;
+          ∙ push_shows ring ring' places places' tokens tokens' buf items q k w big lr lp (lp' ∙ lp) lt (lt' ∙ lt) (may_fit (length ring) (count q) (length buf) q.items (length items) may w.items-in) ek' er' ep et;
       numbers = numbers;
-      in-ring = er';
-      in-places = ep;
-      in-tokens = et;
+      in_ring = er';
+      in_places = ep;
+      in_tokens = et;
     }
 
 -- the group as the policy has it
 drop-least : (n : ℕ) (its : List ℕ) → drop (min (length its) n) its ≡ drop n its
-drop-least n its = go (less-or n (length its))
+drop-least n its = go (less_or n (length its))
   where
     go : (n < length its) ⊎ (length its ≤ n) → drop (min (length its) n) its ≡ drop n its
     go (inl h) = let e : min (length its) n ≡ n = omega arith in ap (λ (k : ℕ). drop k its) e
     go (inr h) = let e : min (length its) n ≡ length its = omega arith in ap (λ (k : ℕ). drop k its) e ∙ drop-length its ∙ sym (drop_past n its h)
 
-more-least : (n g : ℕ) → ltb (min g n) g ≡ ltb n g
-more-least n g = go (less-or n g)
+more_least : (n g : ℕ) → ltb (min g n) g ≡ ltb n g
+more_least n g = go (less_or n g)
   where
     go : (n < g) ⊎ (g ≤ n) → ltb (min g n) g ≡ ltb n g
     go (inl h) = lt-ltb (min g n) g (omega arith) ∙ sym (lt-ltb n g h)
@@ -291,8 +291,8 @@ more-least n g = go (less-or n g)
 record Policed (p : AttachedItems) (n : ℕ) (its : List ℕ) (m : ℕ) : Type 0 where
   few : m ≤ length its
   room : m ≤ n
-  to-items : handed (policy_of p n) its ≡ take m its
-  to-releases : released (policy_of p n) its ≡ drop m its
+  to_items : handed (policy_of p n) its ≡ take m its
+  to_releases : released (policy_of p n) its ≡ drop m its
   flagged : flags_for p (length its) m ≡ flags_of (policy_of p n) its
 
 policed : (p : AttachedItems) (n : ℕ) (its : List ℕ) (m : ℕ) → m ≡ handed_of p (length its) n → Policed p n its m
@@ -301,16 +301,16 @@ policed Take n its m e =
     record {
       few = omega arith;
       room = omega arith;
-      to-items = sym (ap (λ (x : ℕ). take x its) e ∙ (let z : min (length its) n ≡ min n (length its) = omega arith in ap (λ (x : ℕ). take x its) z) ∙ take-least n its);
-      to-releases = sym (ap (λ (x : ℕ). drop x its) e ∙ drop-least n its);
-      flagged = ap (λ (b : Bool). cond b 8 0) (ap (λ (x : ℕ). ltb x (length its)) e ∙ more-least n (length its));
+      to_items = sym (ap (λ (x : ℕ). take x its) e ∙ (let z : min (length its) n ≡ min n (length its) = omega arith in ap (λ (x : ℕ). take x its) z) ∙ take-least n its);
+      to_releases = sym (ap (λ (x : ℕ). drop x its) e ∙ drop-least n its);
+      flagged = ap (λ (b : Bool). cond b 8 0) (ap (λ (x : ℕ). ltb x (length its)) e ∙ more_least n (length its));
     }
 policed Drop n its m e =
     record {
       few = omega arith;
       room = omega arith;
-      to-items = sym (ap (λ (x : ℕ). take x its) e);
-      to-releases = sym (ap (λ (x : ℕ). drop x its) e);
+      to_items = sym (ap (λ (x : ℕ). take x its) e);
+      to_releases = sym (ap (λ (x : ℕ). drop x its) e);
       flagged = refl;
     }
 
@@ -322,28 +322,28 @@ pub takes : (ring places tokens buf buf' items items' releases releases' : List 
     → Takes ring places tokens buf buf' (policy_of policy (length items)) items items' releases releases' q (record { moved = k; items = m; released = g - m; flags = f; inbox = i })
 takes ring places tokens buf buf' items items' releases releases' policy q i g d k m f w lp lt lr eg hg ed ek em eb eh ef ei =
     let its = group (groups_of (distances q places) (items_in tokens q)) in
-    let is : its ≡ queued tokens q.first g = taken-group places tokens q g w.first-in w.items-in lp lt eg hg in
-    let lg : length its ≡ g = ap length is ∙ queued-length tokens q.first (let z = w.first-in in omega arith) g (let z = w.items-in in omega arith) in
+    let is : its ≡ queued tokens q.first g = taken_group places tokens q g w.first_in w.items-in lp lt eg hg in
+    let lg : length its ≡ g = ap length is ∙ queued-length tokens q.first (let z = w.first_in in omega arith) g (let z = w.items-in in omega arith) in
     let po : Policed policy (length items) its m = policed policy (length items) its m (em ∙ ap (λ (x : ℕ). handed_of policy x (length items)) (sym lg)) in
-    let mv : moved (view ring places tokens q) (length buf) ≡ min (length buf) (nearest (count q) (drop g (distances q places))) = moved-is ring places tokens q (length buf) g w lp lt eg in
-    let near : nearest (count q) (drop g (distances q places)) ≤ count q = reach-le places q g w.rising in
+    let mv : moved (view ring places tokens q) (length buf) ≡ min (length buf) (nearest (count q) (drop g (distances q places))) = moved_is ring places tokens q (length buf) g w lp lt eg in
+    let near : nearest (count q) (drop g (distances q places)) ≤ count q = reach_le places q g w.rising in
     let hk : k ≤ count q = omega arith in
     let fk : count q ≤ length ring = w.fits in
     record {
       moves = ek ∙ ap (min (length buf)) ed ∙ sym mv;
       fills =
-          eb ∙ pasted-all buf (queued ring q.head k) 0 k (queued-length ring q.head w.head_in k (omega arith)) (omega arith)
-          ∙ ap (sets buf 0) (sym (bytes-first ring q k w.head_in hk));
-      hands = eh.hands ∙ ap (λ (x : List ℕ). sets items 0 (take m x)) (sym is) ∙ ap (sets items 0) (sym po.to-items);
-      items-are = sym (ap length po.to-items ∙ length-take-le m its po.few);
-      releases-it = eh.releases-it ∙ ap (λ (x : List ℕ). sets releases 0 (drop m x)) (sym is) ∙ ap (sets releases 0) (sym po.to-releases);
-      released-are = sym (ap length po.to-releases ∙ length-drop m its ∙ ap (λ (x : ℕ). x - m) lg);
-      flags-are = ef ∙ ap (λ (x : ℕ). flags_for policy x m) (sym lg) ∙ po.flagged;
+          eb ∙ pasted_all buf (queued ring q.head k) 0 k (queued-length ring q.head w.head_in k (omega arith)) (omega arith)
+          ∙ ap (sets buf 0) (sym (bytes_first ring q k w.head_in hk));
+      hands = eh.hands ∙ ap (λ (x : List ℕ). sets items 0 (take m x)) (sym is) ∙ ap (sets items 0) (sym po.to_items);
+      items_are = sym (ap length po.to_items ∙ length-take-le m its po.few);
+      releases_it = eh.releases_it ∙ ap (λ (x : List ℕ). sets releases 0 (drop m x)) (sym is) ∙ ap (sets releases 0) (sym po.to_releases);
+      released_are = sym (ap length po.to_releases ∙ length-drop m its ∙ ap (λ (x : ℕ). x - m) lg);
+      flags_are = ef ∙ ap (λ (x : ℕ). flags_for policy x m) (sym lg) ∙ po.flagged;
       shows = ap (view ring places tokens) ei ∙ take-shows ring places tokens q k g w lp lt eg hg (omega arith);
       numbers = ei ∙ ap (λ (x : ℕ). move_on (length ring) q k x) (sym lg);
     }
 
-pub handed-few : (p : AttachedItems) (g n : ℕ) → (handed_of p g n ≤ g) × (handed_of p g n ≤ n)
+pub handed_few : (p : AttachedItems) (g n : ℕ) → (handed_of p g n ≤ g) × (handed_of p g n ≤ n)
 unfolding handed_of
-handed-few Take g n = (omega arith, omega arith)
-handed-few Drop g n = (omega arith, omega arith)
+handed_few Take g n = (omega arith, omega arith)
+handed_few Drop g n = (omega arith, omega arith)

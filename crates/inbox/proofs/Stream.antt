@@ -3,7 +3,7 @@ use Rattle.std.proofs.Common.{◌≡◌, ℕ, Bool, true, false, cond, eqb, List
 use Rattle.rules.specs.Table.{Group, Inbox}
 use Rattle.rules.specs.Inbox.{is_nil, all_items, append, group, others, moved, rest}
 use Rattle.rules.specs.Moving.{Policy, handed, released}
-use Rattle.rules.proofs.InboxOk.{items-append, items-nearer}
+use Rattle.rules.proofs.InboxOk.{items-append, items_nearer}
 
 -- a take: how much room its caller lends, and its policy
 pub record Read : Type 0 where
@@ -25,15 +25,15 @@ left b (r ∷ rs) = left (rest b (moved b r.room)) rs
 
 -- ── One take ──
 
-pub each-once : (p : Policy) (its : List ℕ) → handed p its ++ released p its ≡ its
+pub each_once : (p : Policy) (its : List ℕ) → handed p its ++ released p its ≡ its
 unfolding handed released
-each-once Policy.Drop its = refl
-each-once (Policy.Take m) its = take-append-drop m its
+each_once Policy.Drop its = refl
+each_once (Policy.Take m) its = take-append-drop m its
 
-pub items-split : (gs : List Group) → group gs ++ all_items (others gs) ≡ all_items gs
+pub items_split : (gs : List Group) → group gs ++ all_items (others gs) ≡ all_items gs
 unfolding group others all_items
-items-split [] = refl
-items-split (g ∷ gs) = go (eqb g.place 0)
+items_split [] = refl
+items_split (g ∷ gs) = go (eqb g.place 0)
   where
     go : (b : Bool) → cond b g.items [] ++ all_items (cond b gs (g ∷ gs)) ≡ all_items (g ∷ gs)
     go true = refl
@@ -41,34 +41,34 @@ items-split (g ∷ gs) = go (eqb g.place 0)
 
 -- ── Many ──
 
-pub bytes-in-order : (b : Inbox) (rs : List Read) → bytes_out b rs ++ (left b rs).bytes ≡ b.bytes
+pub bytes_in_order : (b : Inbox) (rs : List Read) → bytes_out b rs ++ (left b rs).bytes ≡ b.bytes
 unfolding bytes_out left rest
-bytes-in-order b [] = refl
-bytes-in-order b (r ∷ rs) =
+bytes_in_order b [] = refl
+bytes_in_order b (r ∷ rs) =
     let k = moved b r.room in
     append_assoc (take k b.bytes) (bytes_out (rest b k) rs) (left (rest b k) rs).bytes
-    ∙ ap (λ (x : List ℕ). take k b.bytes ++ x) (bytes-in-order (rest b k) rs)
+    ∙ ap (λ (x : List ℕ). take k b.bytes ++ x) (bytes_in_order (rest b k) rs)
     ∙ take-append-drop k b.bytes
 
-pub items-in-order : (b : Inbox) (rs : List Read) → items_out b rs ++ all_items (left b rs).groups ≡ all_items b.groups
+pub items_in_order : (b : Inbox) (rs : List Read) → items_out b rs ++ all_items (left b rs).groups ≡ all_items b.groups
 unfolding items_out left rest
-items-in-order b [] = refl
-items-in-order b (r ∷ rs) =
+items_in_order b [] = refl
+items_in_order b (r ∷ rs) =
     let k = moved b r.room in
     let its = group b.groups in
     append_assoc (handed r.policy its ++ released r.policy its) (items_out (rest b k) rs) (all_items (left (rest b k) rs).groups)
-    ∙ ap₂ (λ (x y : List ℕ). x ++ y) (each-once r.policy its) (items-in-order (rest b k) rs ∙ items-nearer k (others b.groups))
-    ∙ items-split b.groups
+    ∙ ap₂ (λ (x y : List ℕ). x ++ y) (each_once r.policy its) (items_in_order (rest b k) rs ∙ items_nearer k (others b.groups))
+    ∙ items_split b.groups
 
 -- ── A push and many takes ──
 
-pub push-then-takes : (b : Inbox) (new items : List ℕ) (rs : List Read)
+pub push_then_takes : (b : Inbox) (new items : List ℕ) (rs : List Read)
     → (bytes_out (append b new items) rs ++ (left (append b new items) rs).bytes ≡ b.bytes ++ new)
     × (items_out (append b new items) rs ++ all_items (left (append b new items) rs).groups ≡ all_items b.groups ++ items)
 unfolding append is_nil all_items
-push-then-takes b new items rs = (
-  bytes-in-order (append b new items) rs,
-  items-in-order (append b new items) rs ∙ items-append b.groups (cond (is_nil items) [] (record { place = length b.bytes; items = items } ∷ [])) ∙ ap (λ (x : List ℕ). all_items b.groups ++ x) (last items),
+push_then_takes b new items rs = (
+  bytes_in_order (append b new items) rs,
+  items_in_order (append b new items) rs ∙ items-append b.groups (cond (is_nil items) [] (record { place = length b.bytes; items = items } ∷ [])) ∙ ap (λ (x : List ℕ). all_items b.groups ++ x) (last items),
 )
   where
     last : (its : List ℕ) → all_items (cond (is_nil its) [] (record { place = length b.bytes; items = its } ∷ [])) ≡ its

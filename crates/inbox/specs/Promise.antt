@@ -35,9 +35,9 @@ pub record Pushes (ring ring' places places' tokens tokens' buf items : List ℕ
   pub moves : r.moved ≡ min (length ring - count q) (length buf)
   pub shows : view ring' places' tokens' r.inbox ≡ append (view ring places tokens q) (take (length ring - count q) buf) items
   pub numbers : r.inbox ≡ come_on q r.moved (length items)
-  pub in-ring : whole ring' q.head ≡ paste (whole ring q.head) (count q) buf r.moved
-  pub in-places : whole places' q.first ≡ paste (whole places q.first) q.items (replicate (length items) q.written_total) (length items)
-  pub in-tokens : whole tokens' q.first ≡ paste (whole tokens q.first) q.items items (length items)
+  pub in_ring : whole ring' q.head ≡ paste (whole ring q.head) (count q) buf r.moved
+  pub in_places : whole places' q.first ≡ paste (whole places q.first) q.items (replicate (length items) q.written_total) (length items)
+  pub in_tokens : whole tokens' q.first ≡ paste (whole tokens q.first) q.items items (length items)
 
 -- ── take ──
 
@@ -62,10 +62,10 @@ pub record Takes (ring places tokens buf buf' : List ℕ) (policy : Policy) (ite
   pub moves : r.moved ≡ moved (view ring places tokens q) (length buf)
   pub fills : buf' ≡ sets buf 0 (take r.moved (bytes_of ring q))
   pub hands : items' ≡ sets items 0 (handed policy (group (groups_of (distances q places) (items_in tokens q))))
-  pub items-are : r.items ≡ length (handed policy (group (groups_of (distances q places) (items_in tokens q))))
-  pub releases-it : releases' ≡ sets releases 0 (released policy (group (groups_of (distances q places) (items_in tokens q))))
-  pub released-are : r.released ≡ length (released policy (group (groups_of (distances q places) (items_in tokens q))))
-  pub flags-are : r.flags ≡ flags_of policy (group (groups_of (distances q places) (items_in tokens q)))
+  pub items_are : r.items ≡ length (handed policy (group (groups_of (distances q places) (items_in tokens q))))
+  pub releases_it : releases' ≡ sets releases 0 (released policy (group (groups_of (distances q places) (items_in tokens q))))
+  pub released_are : r.released ≡ length (released policy (group (groups_of (distances q places) (items_in tokens q))))
+  pub flags_are : r.flags ≡ flags_of policy (group (groups_of (distances q places) (items_in tokens q)))
   pub shows : view ring places tokens r.inbox ≡ rest (view ring places tokens q) r.moved
   pub numbers : r.inbox ≡ move_on (length ring) q r.moved (length (group (groups_of (distances q places) (items_in tokens q))))
 
@@ -80,13 +80,13 @@ flags_for Drop g m = 0
 
 pub record Hands (its : List ℕ) (m : ℕ) (items items' releases releases' : List ℕ) : Type 0 where
   pub hands : items' ≡ sets items 0 (take m its)
-  pub releases-it : releases' ≡ sets releases 0 (drop m its)
+  pub releases_it : releases' ≡ sets releases 0 (drop m its)
 
 -- ── discard ──
 
 -- all bytes go, and the totals meet; all items are released in order, from place `at` of the list on
 pub record Discards (c : ℕ) (tokens releases releases' : List ℕ) (at : ℕ) (q : Inbox) (r : Discarded) : Type 0 where
-  pub released-are : r.released ≡ q.items
-  pub releases-it : releases' ≡ sets releases at (items_in tokens q)
+  pub released_are : r.released ≡ q.items
+  pub releases_it : releases' ≡ sets releases at (items_in tokens q)
   pub numbers : r.inbox ≡ move_on c q (count q) q.items
   pub meet : r.inbox.read_total ≡ r.inbox.written_total

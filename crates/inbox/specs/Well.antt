@@ -16,6 +16,6 @@ is_well c places q = nat_lt q.head c && nat_le (count q) c && nat_lt q.first 256
 pub record Well (c : ℕ) (places : List ℕ) (q : Inbox) : Type 0 where
   pub head_in : q.head < c
   pub fits : count q ≤ c
-  pub first-in : q.first < 256
+  pub first_in : q.first < 256
   pub items-in : q.items ≤ 256
   pub rising : rises 0 (count q) (distances q places) ≡ true

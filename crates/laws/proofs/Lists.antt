@@ -9,8 +9,8 @@ use lib.Seq.{take_at, drop_at, drop-cons, set_at}
 
 -- a part that was lent and has come back: what stands before it and after it is as it was
 module _ {A : Type 0} (x y z : List A) (a k : ℕ) (before : length x ≡ a) (lent : length y ≡ k) where
-  pub mid-is : mid_of a k (x ++ (y ++ z)) ≡ y
-  mid-is = ap (take k) (drop_at x (y ++ z) a before) ∙ take_at y z k lent
+  pub mid_is : mid_of a k (x ++ (y ++ z)) ≡ y
+  mid_is = ap (take k) (drop_at x (y ++ z) a before) ∙ take_at y z k lent
 
   pub put_back : (y' : List A) → put_mid a k (x ++ (y ++ z)) y' ≡ x ++ (y' ++ z)
   put_back y' = rw (take_at x (y ++ z) a before, drop_at x (y ++ z) a before, drop_at y z k lent)

@@ -12,8 +12,8 @@ cond_both P true f g = f refl
 cond_both P false f g = g refl
 
 -- a number is below another, or not
-pub less-or : (a b : ℕ) → (a < b) ⊎ (b ≤ a)
-less-or a b = go (ltb a b) refl
+pub less_or : (a b : ℕ) → (a < b) ⊎ (b ≤ a)
+less_or a b = go (ltb a b) refl
   where
     go : (t : Bool) → ltb a b ≡ t → (a < b) ⊎ (b ≤ a)
     go true e = inl (ltb-true a b e)
@@ -40,8 +40,8 @@ pub or_right : (a b : Bool) → a || b ≡ false → b ≡ false
 or_right true b h = absurd (true≢false h)
 or_right false b h = h
 
-pub and-three : (a b c : Bool) → a && b && c ≡ true → (a ≡ true) × (b ≡ true) × (c ≡ true)
-and-three a b c h = let l = and_left (a && b) c h in (and_left a b l, and_right a b l, and_right (a && b) c h)
+pub and_three : (a b c : Bool) → a && b && c ≡ true → (a ≡ true) × (b ≡ true) × (c ≡ true)
+and_three a b c h = let l = and_left (a && b) c h in (and_left a b l, and_right a b l, and_right (a && b) c h)
 
-pub and-four : (a b c d : Bool) → a && b && c && d ≡ true → (a ≡ true) × (b ≡ true) × (c ≡ true) × (d ≡ true)
-and-four a b c d h = let l = and-three a b c (and_left (a && b && c) d h) in (l.0, l.1, l.2, and_right (a && b && c) d h)
+pub and_four : (a b c d : Bool) → a && b && c && d ≡ true → (a ≡ true) × (b ≡ true) × (c ≡ true) × (d ≡ true)
+and_four a b c d h = let l = and_three a b c (and_left (a && b && c) d h) in (l.0, l.1, l.2, and_right (a && b && c) d h)

@@ -37,20 +37,20 @@ module _ (v : ℕ) (h : 2147483648 ≤ v) (f : v < 4294967296) where
 clash : false ≡ true → ⊥
 clash p = let z : ◌≡◌ {A = ℕ} 0 1 = cc in omega arith
 
-not-below : (n : ℕ) → le_z (pos 0) (pos n) ≡ false → ⊥
-not-below n p = let h : n < 0 = leb-false 0 n p in omega arith
+not_below : (n : ℕ) → le_z (pos 0) (pos n) ≡ false → ⊥
+not_below n p = let h : n < 0 = leb-false 0 n p in omega arith
 
 flip : (z : ℤ) → le_z (pos 0) z ≡ false → negsuc 0 -ℤ z ≡ pos (mag z)
-flip (pos n) p = absurd (not-below n p)
+flip (pos n) p = absurd (not_below n p)
 flip (negsuc k) p = let h : 1 ≤ suc k = omega arith in let e : suc k - 1 ≡ k = omega arith in rw (le-ltb (suc k) 1 h, e)
 
 low_bits : (z : ℤ) → le_z (pos 0) z ≡ false → 4294967295 - mag z ≡ of_z w32 z
-low_bits (pos n) p = absurd (not-below n p)
+low_bits (pos n) p = absurd (not_below n p)
 low_bits (negsuc k) p = omega arith
 
 module _ (z : ℤ) (s : SFits w32 z) where
-  pub up-cast : le_z (pos 0) z ≡ true → T (non_neg z) × Fits w32 (nat_abs z)
-  up-cast = go z s
+  pub up_cast : le_z (pos 0) z ≡ true → T (non_neg z) × Fits w32 (nat_abs z)
+  up_cast = go z s
     where
       go : (z : ℤ) → SFits w32 z → le_z (pos 0) z ≡ true → T (non_neg z) × Fits w32 (nat_abs z)
       go (pos n) s p = let h : n < 2 ^ 31 = s.sfits in (tt, record { fits = omega arith })
@@ -70,11 +70,11 @@ module _ (z : ℤ) (s : SFits w32 z) where
     e : to_z w32 (of_z w32 (negsuc 0 -ℤ z)) ≡ pos (mag z)
     e = to_z-of_z w32 _ down_fits ∙ flip z p
 
-    pub down-cast : T (non_neg (to_z w32 (of_z w32 (negsuc 0 -ℤ z)))) × Fits w32 (nat_abs (to_z w32 (of_z w32 (negsuc 0 -ℤ z))))
-    down-cast = let h : mag z < 2 ^ 31 = s.sfits in subst (λ (y : ℤ). T (non_neg y) × Fits w32 (nat_abs y)) (sym e) (tt, record { fits = omega arith })
+    pub down_cast : T (non_neg (to_z w32 (of_z w32 (negsuc 0 -ℤ z)))) × Fits w32 (nat_abs (to_z w32 (of_z w32 (negsuc 0 -ℤ z))))
+    down_cast = let h : mag z < 2 ^ 31 = s.sfits in subst (λ (y : ℤ). T (non_neg y) × Fits w32 (nat_abs y)) (sym e) (tt, record { fits = omega arith })
 
-    pub down-sub : nat_abs (to_z w32 (of_z w32 (negsuc 0 -ℤ z))) ≤ 4294967295
-    down-sub = let h : mag z < 2 ^ 31 = s.sfits in subst (λ (y : ℤ). nat_abs y ≤ 4294967295) (sym e) (omega arith)
+    pub down_sub : nat_abs (to_z w32 (of_z w32 (negsuc 0 -ℤ z))) ≤ 4294967295
+    down_sub = let h : mag z < 2 ^ 31 = s.sfits in subst (λ (y : ℤ). nat_abs y ≤ 4294967295) (sym e) (omega arith)
 
     pub down_is : 4294967295 - nat_abs (to_z w32 (of_z w32 (negsuc 0 -ℤ z))) ≡ of_z w32 z
     down_is = ap (λ (y : ℤ). 4294967295 - nat_abs y) e ∙ low_bits z p

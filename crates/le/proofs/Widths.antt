@@ -25,12 +25,12 @@ le_split (suc j) k l p =
     rw (suc-add, le_split j k l (p + 1), e, more) (omega arith)
 
 -- and so are its bytes
-pub bytes-split : (j k v : ℕ) → bytes (j + k) v ≡ bytes j v ++ bytes k (v / 256 ^ j)
+pub bytes_split : (j k v : ℕ) → bytes (j + k) v ≡ bytes j v ++ bytes k (v / 256 ^ j)
 unfolding bytes
-bytes-split zero k v = let e : v / 1 ≡ v = omega arith in rw (zero-add k, e)
-bytes-split (suc j) k v =
+bytes_split zero k v = let e : v / 1 ≡ v = omega arith in rw (zero-add k, e)
+bytes_split (suc j) k v =
     let e : v / 256 / 256 ^ j ≡ v / 256 ^ suc j = rw pow-succ' (div-div-eq-div-mul v 256 (256 ^ j)) in
-    rw (suc-add, bytes-split j k (v / 256), e)
+    rw (suc-add, bytes_split j k (v / 256), e)
 
 pub length-bytes : (k v : ℕ) → length (bytes k v) ≡ k
 unfolding bytes
@@ -60,7 +60,7 @@ bytes_low (suc k) v =
 pub halves : (j k v : ℕ) (l : List ℕ) (p : ℕ) → sets (sets l p (bytes j (v % 256 ^ j))) (p + j) (bytes k (v / 256 ^ j)) ≡ sets l p (bytes (j + k) v)
 halves j k v l p =
     let e : p + j ≡ p + length (bytes j v) = ap (λ (n : ℕ). p + n) (sym (length-bytes j v)) in
-    rw (bytes_low j v, e, bytes-split j k v) (sym (sets-append (bytes j v) (bytes k (v / 256 ^ j)) l p))
+    rw (bytes_low j v, e, bytes_split j k v) (sym (sets-append (bytes j v) (bytes k (v / 256 ^ j)) l p))
 
 -- ── What is stored is read back ──
 
@@ -79,10 +79,10 @@ unfolding le
 le_below zero vs l p q h = refl
 le_below (suc k) vs l p q h = rw (below vs l p q (omega arith), le_below k vs l p (q + 1) (omega arith))
 
-pub le-above : (k : ℕ) (vs l : List ℕ) (p q : ℕ) → p + length vs ≤ q → le k (sets l p vs) q ≡ le k l q
+pub le_above : (k : ℕ) (vs l : List ℕ) (p q : ℕ) → p + length vs ≤ q → le k (sets l p vs) q ≡ le k l q
 unfolding le
-le-above zero vs l p q h = refl
-le-above (suc k) vs l p q h = rw (above vs l p q h, le-above k vs l p (q + 1) (omega arith))
+le_above zero vs l p q h = refl
+le_above (suc k) vs l p q h = rw (above vs l p q h, le_above k vs l p (q + 1) (omega arith))
 
 -- k bytes of v, stored at p and read there: v, where k bytes hold it
 pub back : (k v : ℕ) (l : List ℕ) (p : ℕ) → v < 256 ^ k → p + k ≤ length l → le k (sets l p (bytes k v)) p ≡ v
@@ -97,17 +97,17 @@ back (suc k) v l p f h =
     rw (add-one p, first, rest) (omega arith)
 
 -- a signed number too
-pub back-signed : (z : ℤ) (l : List ℕ) (p : ℕ) → SFits w32 z → p + 4 ≤ length l → to_z w32 (le 4 (sets l p (bytes 4 (of_z w32 z))) p) ≡ z
-back-signed z l p s h = ap (to_z w32) (back 4 (of_z w32 z) l p (of_z_fits w32 z s).fits h) ∙ to_z-of_z w32 z s
+pub back_signed : (z : ℤ) (l : List ℕ) (p : ℕ) → SFits w32 z → p + 4 ≤ length l → to_z w32 (le 4 (sets l p (bytes 4 (of_z w32 z))) p) ≡ z
+back_signed z l p s h = ap (to_z w32) (back 4 (of_z w32 z) l p (of_z_fits w32 z s).fits h) ∙ to_z-of_z w32 z s
 
 -- ── A number in a part ──
 
-pub le-part : (k : ℕ) (l : List ℕ) (a m p : ℕ) → p + k ≤ m → le k (take m (drop a l)) p ≡ le k l (a + p)
+pub le_part : (k : ℕ) (l : List ℕ) (a m p : ℕ) → p + k ≤ m → le k (take m (drop a l)) p ≡ le k l (a + p)
 unfolding le
-le-part zero l a m p h = refl
-le-part (suc k) l a m p h =
+le_part zero l a m p h = refl
+le_part (suc k) l a m p h =
     let e : a + (p + 1) ≡ a + p + 1 = omega arith in
-    rw (get_or-take m (drop a l) p 0 (omega arith), get_or-drop a l p 0, le-part k l a m (p + 1) (omega arith), e)
+    rw (get_or-take m (drop a l) p 0 (omega arith), get_or-drop a l p 0, le_part k l a m (p + 1) (omega arith), e)
 
 -- ── Bytes that are bytes ──
 
@@ -115,10 +115,10 @@ le-part (suc k) l a m p h =
 abbrev pub AreBytes : List ℕ → Type 0
 AreBytes l = (i : ℕ) → get_or l i 0 < 256
 
-pub le-fits : (k : ℕ) (l : List ℕ) (p : ℕ) → AreBytes l → le k l p < 256 ^ k
+pub le_fits : (k : ℕ) (l : List ℕ) (p : ℕ) → AreBytes l → le k l p < 256 ^ k
 unfolding le
-le-fits zero l p b = omega arith
-le-fits (suc k) l p b = let h = le-fits k l (p + 1) b in let f = b p in rw pow-succ' (omega arith)
+le_fits zero l p b = omega arith
+le_fits (suc k) l p b = let h = le_fits k l (p + 1) b in let f = b p in rw pow-succ' (omega arith)
 
 -- a number's bytes are those that it was read from
 pub bytes_le : (k : ℕ) (l : List ℕ) (p : ℕ) → AreBytes l → p + k ≤ length l → bytes k (le k l p) ≡ take k (drop p l)
@@ -132,23 +132,23 @@ bytes_le (suc k) l p b h =
 
 -- ── A number in a list that is put together ──
 
-pub le-shift : (k : ℕ) (xs l : List ℕ) (p : ℕ) → le k (xs ++ l) (length xs + p) ≡ le k l p
+pub le_shift : (k : ℕ) (xs l : List ℕ) (p : ℕ) → le k (xs ++ l) (length xs + p) ≡ le k l p
 unfolding le
-le-shift zero xs l p = refl
-le-shift (suc k) xs l p =
+le_shift zero xs l p = refl
+le_shift (suc k) xs l p =
     let e : length xs + p + 1 ≡ length xs + (p + 1) = omega arith in
-    rw (get_or-append-add xs l p 0, e, le-shift k xs l (p + 1))
+    rw (get_or-append-add xs l p 0, e, le_shift k xs l (p + 1))
 
 front : (k v : ℕ) (l : List ℕ) → v < 256 ^ k → le k (bytes k v ++ l) 0 ≡ v
 unfolding le bytes
 front zero v l h = omega arith
 front (suc k) v l h =
     let n : v < 256 * 256 ^ k = rw pow-succ' at h in
-    let rest : le k ((v % 256) ∷ (bytes k (v / 256) ++ l)) 1 ≡ v / 256 = le-shift k ((v % 256) ∷ []) (bytes k (v / 256) ++ l) 0 ∙ front k (v / 256) l (omega arith) in
+    let rest : le k ((v % 256) ∷ (bytes k (v / 256) ++ l)) 1 ≡ v / 256 = le_shift k ((v % 256) ∷ []) (bytes k (v / 256) ++ l) 0 ∙ front k (v / 256) l (omega arith) in
     rw rest (omega arith)
 
 -- k bytes of v behind xs
-pub le-at : (k v : ℕ) (xs l : List ℕ) (p : ℕ) → v < 256 ^ k → length xs ≡ p → le k (xs ++ (bytes k v ++ l)) p ≡ v
-le-at k v xs l p h e =
+pub le_at : (k v : ℕ) (xs l : List ℕ) (p : ℕ) → v < 256 ^ k → length xs ≡ p → le k (xs ++ (bytes k v ++ l)) p ≡ v
+le_at k v xs l p h e =
     let z : p ≡ length xs + 0 = omega arith in
-    ap (le k (xs ++ (bytes k v ++ l))) z ∙ le-shift k xs (bytes k v ++ l) 0 ∙ front k v l h
+    ap (le k (xs ++ (bytes k v ++ l))) z ∙ le_shift k xs (bytes k v ++ l) 0 ∙ front k v l h

@@ -11,7 +11,7 @@ use Rattle.words.specs.Numbers.{number_of}
 use Rattle.words.specs.declared.Errno.{Errno}
 use Rattle.words.specs.declared.Errno.TheVariants.{EAFNOSUPPORT, EPROTOTYPE, EPROTONOSUPPORT}
 use Rattle.words.specs.declared.Verdict.{Verdict}
-use Rattle.words.proofs.Names.{number-some}
+use Rattle.words.proofs.Names.{number_some}
 use Rattle.syscall.specs.Arguments.{socket_of}
 use Rattle.rules.specs.Table as model
 use Rattle.rules.specs.Table.{Table, at, put, handle, free_slot, no_slot, new_handle, enter}
@@ -29,35 +29,35 @@ use Rattle.promise.specs.Answers.{refused_with, accepted_with}
 use Rattle.promise.specs.Hidden.{hidden_in, hidden_after, room_after}
 use Rattle.promise.specs.Promise.{Lists, Done}
 use Rattle.promise.specs.declared.Answer.{Answer}
-use Rattle.promise.proofs.Known.{Known, refused-done}
-use Rattle.promise.proofs.Kept.{keeps-free, other-state}
-use Rattle.promise.proofs.Changed.{Fit, fields-unbound, accepted-done, cell-stored}
-use Rattle.promise.proofs.Free.{Free, none_free, free-found}
+use Rattle.promise.proofs.Known.{Known, refused_done}
+use Rattle.promise.proofs.Kept.{keeps_free, other_state}
+use Rattle.promise.proofs.Changed.{Fit, fields_unbound, accepted_done, cell_stored}
+use Rattle.promise.proofs.Free.{Free, none_free, free_found}
 
 -- what socket does when its arguments are answered
-unfoldable after-arguments : Table → Verdict → Outcome → Outcome
-after-arguments t Verdict.Accepted o = o
-after-arguments t (Verdict.Refused e) o = refuse t (number_of e)
+unfoldable after_arguments : Table → Verdict → Outcome → Outcome
+after_arguments t Verdict.Accepted o = o
+after_arguments t (Verdict.Refused e) o = refuse t (number_of e)
 
 -- and then
-abbrev slot-first : Table → Outcome
-slot-first t = refuse_if (no_slot t) 16 t (answer (enter t (free_slot t) true model.State.Unbound) (new_handle t) [] [])
+abbrev slot_first : Table → Outcome
+slot_first t = refuse_if (no_slot t) 16 t (answer (enter t (free_slot t) true model.State.Unbound) (new_handle t) [] [])
 
-arguments-first : (t : Table) (d ty p : ℤ) → run t (Call.Socket d ty p)
-    ≡ after-arguments t (socket_of d ty p) (slot-first t)
-unfolding run do_socket socket_of refuse_if after-arguments
-arguments-first t d ty p = go (equals d 1) (equals ty 1) (equals p 0)
+arguments_first : (t : Table) (d ty p : ℤ) → run t (Call.Socket d ty p)
+    ≡ after_arguments t (socket_of d ty p) (slot_first t)
+unfolding run do_socket socket_of refuse_if after_arguments
+arguments_first t d ty p = go (equals d 1) (equals ty 1) (equals p 0)
   where
     go : (a b c : Bool) → (let o = cond (no_slot t) (refuse t 16) (answer (enter t (free_slot t) true model.State.Unbound) (new_handle t) [] []) in
         cond (not a) (refuse t 12) (cond (not b) (refuse t 14) (cond (not c) (refuse t 15) o))
-        ≡ after-arguments t (cond (not a) (Verdict.Refused EAFNOSUPPORT) (cond (not b) (Verdict.Refused EPROTOTYPE) (cond (not c) (Verdict.Refused EPROTONOSUPPORT) Verdict.Accepted))) o)
+        ≡ after_arguments t (cond (not a) (Verdict.Refused EAFNOSUPPORT) (cond (not b) (Verdict.Refused EPROTOTYPE) (cond (not c) (Verdict.Refused EPROTONOSUPPORT) Verdict.Accepted))) o)
     go true true true = refl
     go true true false = refl
     go true false c = refl
     go false b c = refl
 
 not_full : (t : Table) (i g : ℕ) → no_slot t ≡ false → i ≡ free_slot t → suc (at t i).gen ≡ g
-    → slot-first t ≡ answer (enter t i true model.State.Unbound) (handle g i) [] []
+    → slot_first t ≡ answer (enter t i true model.State.Unbound) (handle g i) [] []
 unfolding refuse_if new_handle
 not_full t i g e f h =
     rw e (ap (λ (j : ℕ). answer (enter t j true model.State.Unbound) (handle (suc (at t j).gen) j) [] []) (sym f) ∙ ap (λ (x : ℕ). answer (enter t i true model.State.Unbound) (handle x i) [] []) h)
@@ -66,46 +66,46 @@ entered : (t : Table) (i g : ℕ) (r : Row) → suc (at t i).gen ≡ g → enter
 unfolding enter show_in cell_of state_of
 entered t i g r h = ap (λ (x : ℕ). put t i (record { gen = x; in_use = true; given = true; state = model.State.Unbound })) h
 
-unbound-fit : (n c g : ℕ) (r : Row) → Fit n c r (with_cell (cell_of g Unbound) r)
+unbound_fit : (n c g : ℕ) (r : Row) → Fit n c r (with_cell (cell_of g Unbound) r)
 unfolding fields_well ranges_well hidden_in hidden_after room_after show_in cell_of state_of
-unbound-fit n c g r = record { fields = fields-unbound g; ranges = refl; numbers = refl; room = refl }
+unbound_fit n c g r = record { fields = fields_unbound g; ranges = refl; numbers = refl; room = refl }
 
 -- the arguments as they are handed on
 module _ (n c : ℕ) (s : Store) (l : Lists) (d ty p d' ty' p' : ℤ) (v : Verdict) (ev' : v ≡ socket_of d' ty' p') (ed : d' ≡ d) (et : ty' ≡ ty) (ep : p' ≡ p) (r : Answer) where
   ev : v ≡ socket_of d ty p
   ev = rw (sym ed, sym et, sym ep) ev'
 
-  pub socket-refused : (x : Errno) → v ≡ Verdict.Refused x → r ≡ refused_with (number_of x) → Done (run (view n c s) (Call.Socket d ty p)) n c s s l l r
-  unfolding after-arguments
-  socket-refused x e er =
-      refused-done _ (number_of x) n c s l r (arguments-first (view n c s) d ty p ∙ ap (λ (y : Verdict). after-arguments (view n c s) y (slot-first (view n c s))) (sym ev ∙ e)) (number-some x) er
+  pub socket_refused : (x : Errno) → v ≡ Verdict.Refused x → r ≡ refused_with (number_of x) → Done (run (view n c s) (Call.Socket d ty p)) n c s s l l r
+  unfolding after_arguments
+  socket_refused x e er =
+      refused_done _ (number_of x) n c s l r (arguments_first (view n c s) d ty p ∙ ap (λ (y : Verdict). after_arguments (view n c s) y (slot_first (view n c s))) (sym ev ∙ e)) (number_some x) er
 
   module _ (i : ℕ) (ok : v ≡ Verdict.Accepted) (ei : i ≡ least n (λ j. free_cell (cell_at s.words j))) where
-    arguments-passed : run (view n c s) (Call.Socket d ty p) ≡ slot-first (view n c s)
-    unfolding after-arguments
-    arguments-passed = arguments-first (view n c s) d ty p ∙ ap (λ (x : Verdict). after-arguments (view n c s) x (slot-first (view n c s))) (sym ev ∙ ok)
+    arguments_passed : run (view n c s) (Call.Socket d ty p) ≡ slot_first (view n c s)
+    unfolding after_arguments
+    arguments_passed = arguments_first (view n c s) d ty p ∙ ap (λ (x : Verdict). after_arguments (view n c s) x (slot_first (view n c s))) (sym ev ∙ ok)
 
-    pub socket-full : i ≡ n → r ≡ refused_with 16 → Done (run (view n c s) (Call.Socket d ty p)) n c s s l l r
+    pub socket_full : i ≡ n → r ≡ refused_with 16 → Done (run (view n c s) (Call.Socket d ty p)) n c s s l l r
     unfolding refuse_if
-    socket-full z er = refused-done _ 16 n c s l r (arguments-passed ∙ rw (none_free n c s i ei z)) (λ x. omega arith) er
+    socket_full z er = refused_done _ 16 n c s l r (arguments_passed ∙ rw (none_free n c s i ei z)) (λ x. omega arith) er
 
-  pub socket-made : (k : Known n c s) (i g : ℕ) (w' : List ℕ) (h : ℕ) → v ≡ Verdict.Accepted → i ≡ least n (λ j. free_cell (cell_at s.words j)) → i ≢ n
+  pub socket_made : (k : Known n c s) (i g : ℕ) (w' : List ℕ) (h : ℕ) → v ≡ Verdict.Accepted → i ≡ least n (λ j. free_cell (cell_at s.words j)) → i ≢ n
       → g ≡ (cell_at s.words i).generation → w' ≡ store_at s.words i (cell_of (g + 1) Unbound) → h ≡ handle (g + 1) i → r ≡ accepted_with h 0
       → Done (run (view n c s) (Call.Socket d ty p)) n c s (lent w' s.bytes s.tokens) l l r
   unfolding row_at
-  socket-made k i before w' h ok ei ne eb ew eh er =
-      let f : Free n c s i = free-found n c s i ei ne in
+  socket_made k i before w' h ok ei ne eb ew eh er =
+      let f : Free n c s i = free_found n c s i ei ne in
       let g : ℕ = before + 1 in
       let t : Table = view n c s in
       let s' : Store = lent w' s.bytes s.tokens in
       let eg : suc (at t i).gen ≡ g = let z = f.was in omega arith in
       let o_is : run t (Call.Socket d ty p) ≡ answer (enter t i true model.State.Unbound) (handle g i) [] [] =
-      arguments-passed i ok ei ∙ not_full t i g f.is_some f.is-first eg in
-      let next-is : (run t (Call.Socket d ty p)).next ≡ put t i (show (with_cell (cell_of g Unbound) (row_at n c s i))) =
+      arguments_passed i ok ei ∙ not_full t i g f.is_some f.is_first eg in
+      let next_is : (run t (Call.Socket d ty p)).next ≡ put t i (show (with_cell (cell_of g Unbound) (row_at n c s i))) =
       ap (λ (x : Outcome). x.next) o_is ∙ entered t i g (row_at n c s i) eg in
-      accepted-done (run t (Call.Socket d ty p)) (enter t i true model.State.Unbound) (handle g i) [] n c s s' l l r o_is
-      (cell-stored n c s (Call.Socket d ty p) i (cell_of g Unbound) w' k f.within ew
-      next-is
-      (unbound-fit n c g (row_at n c s i))
-      (keeps-free (row_at n c s i) (with_cell (cell_of g Unbound) (row_at n c s i)) (λ b e. other-state (sym f.is-closed ∙ e) (λ z. omega arith)) (λ q e. other-state (sym (back g Unbound) ∙ e) (λ z. omega arith))))
+      accepted_done (run t (Call.Socket d ty p)) (enter t i true model.State.Unbound) (handle g i) [] n c s s' l l r o_is
+      (cell_stored n c s (Call.Socket d ty p) i (cell_of g Unbound) w' k f.within ew
+      next_is
+      (unbound_fit n c g (row_at n c s i))
+      (keeps_free (row_at n c s i) (with_cell (cell_of g Unbound) (row_at n c s i)) (λ b e. other_state (sym f.is_closed ∙ e) (λ z. omega arith)) (λ q e. other_state (sym (back g Unbound) ∙ e) (λ z. omega arith))))
       refl refl (er ∙ ap (λ (x : ℕ). accepted_with x 0) eh)

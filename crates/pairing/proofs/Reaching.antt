@@ -24,65 +24,65 @@ use Rattle.storage.specs.declared.Listener.{Listener}
 use Rattle.storage.specs.declared.Connection.{Connection}
 use Rattle.storage.specs.declared.State.{State}
 use Rattle.storage.specs.declared.State.TheVariants.{Closed, Unbound, Bound, Listening, Connected}
-use Rattle.storage.proofs.Coding.{loaded-state, loaded_at}
-use Rattle.storage.proofs.Viewed.{at_none, seen, gen-at, holder-view}
+use Rattle.storage.proofs.Coding.{loaded_state, loaded_at}
+use Rattle.storage.proofs.Viewed.{at_none, seen, gen_at, holder_view}
 use Rattle.table.proofs.Links.{queue_long}
 use Rattle.promise.specs.Answers.{refused_with, accepted_with}
 use Rattle.promise.specs.Promise.{Lists, lists, Stored, Done}
 use Rattle.promise.specs.declared.Answer.{Answer}
-use Rattle.promise.proofs.Known.{Known, refused-done, listener-at}
-use Rattle.promise.proofs.Changed.{accepted-done}
-use Rattle.promise.proofs.Free.{Free, none_free, free-found}
-use Rattle.promise.proofs.Live.{Live, live, not-closed, state-seen, stale-name, no_name, long-name, named-run}
+use Rattle.promise.proofs.Known.{Known, refused_done, listener_at}
+use Rattle.promise.proofs.Changed.{accepted_done}
+use Rattle.promise.proofs.Free.{Free, none_free, free_found}
+use Rattle.promise.proofs.Live.{Live, live, not_closed, state_seen, stale_name, no_name, long_name, named_run}
 use Rattle.pairing.specs.Callers.{Caller}
 use Rattle.pairing.specs.Pairs.{joined}
-use Rattle.pairing.proofs.Joining.{joined_is, joined-stored}
+use Rattle.pairing.proofs.Joining.{joined_is, joined_stored}
 
 -- ── The caller ──
 
 module _ (n c : ℕ) (s : Store) (ls : Lists) (h : ℕ) (m : List ℕ) (r : Answer) (b : Bool) (eb : b ≡ live_in n s.words h) where
-  pub connect-stale : not b ≡ true → r ≡ refused_with 1 → Done (run (view n c s) (Call.Connect h m)) n c s s ls ls r
+  pub connect_stale : not b ≡ true → r ≡ refused_with 1 → Done (run (view n c s) (Call.Connect h m)) n c s s ls ls r
   unfolding run
-  connect-stale d er = refused-done _ 1 n c s ls r (stale-name n c s h b m _ eb d) (λ z. omega arith) er
+  connect_stale d er = refused_done _ 1 n c s ls r (stale_name n c s h b m _ eb d) (λ z. omega arith) er
 
   module _ (d : not b ≡ false) where
-    pub connect-unnamed : length m ≡ 0 → r ≡ refused_with 2 → Done (run (view n c s) (Call.Connect h m)) n c s s ls ls r
+    pub connect_unnamed : length m ≡ 0 → r ≡ refused_with 2 → Done (run (view n c s) (Call.Connect h m)) n c s s ls ls r
     unfolding run
-    connect-unnamed e er = refused-done _ 2 n c s ls r (no_name n c s h (live n c s h b eb d) _ m e) (λ z. omega arith) er
+    connect_unnamed e er = refused_done _ 2 n c s ls r (no_name n c s h (live n c s h b eb d) _ m e) (λ z. omega arith) er
 
-    pub connect-long : (length m ≡ 0 → ⊥) → 255 < length m → r ≡ refused_with 17 → Done (run (view n c s) (Call.Connect h m)) n c s s ls ls r
+    pub connect_long : (length m ≡ 0 → ⊥) → 255 < length m → r ≡ refused_with 17 → Done (run (view n c s) (Call.Connect h m)) n c s s ls ls r
     unfolding run
-    connect-long e g er = refused-done _ 17 n c s ls r (long-name n c s h (live n c s h b eb d) _ m e g) (λ z. omega arith) er
+    connect_long e g er = refused_done _ 17 n c s ls r (long_name n c s h (live n c s h b eb d) _ m e g) (λ z. omega arith) er
 
     module _ (i : ℕ) (slot : Slot) (ei : i ≡ slot_of h) (es : slot ≡ loaded_at s.words i) (some : length m ≡ 0 → ⊥) (short : length m ≤ 255) where
       own : (σ : State) → slot.state ≡ σ → state_of (cell_at s.words (slot_of h)) ≡ σ
-      own σ e = sym (loaded-state s.words ei es) ∙ e
+      own σ e = sym (loaded_state s.words ei es) ∙ e
 
       by_state : (σ : State) → slot.state ≡ σ → run (view n c s) (Call.Connect h m)
           ≡ do_connect (view n c s) h m (show_in (row_at n c s (slot_of h)) (cell_at s.words (slot_of h)).generation σ).state
       unfolding run
       by_state σ e =
           let l = live n c s h b eb d in
-          named-run n c s h l _ m some short ∙ ap (do_connect (view n c s) h m) (state-seen n c s h σ l.within (own σ e))
+          named_run n c s h l _ m some short ∙ ap (do_connect (view n c s) h m) (state_seen n c s h σ l.within (own σ e))
 
       -- no live socket is closed
-      pub connect-closed : slot.state ≡ Closed → Done (run (view n c s) (Call.Connect h m)) n c s s ls ls r
-      connect-closed e = not-closed n c s h (live n c s h b eb d) (own Closed e)
+      pub connect_closed : slot.state ≡ Closed → Done (run (view n c s) (Call.Connect h m)) n c s s ls ls r
+      connect_closed e = not_closed n c s h (live n c s h b eb d) (own Closed e)
 
-      pub connect-bound : (k : ℕ) → slot.state ≡ Bound k → r ≡ refused_with 2 → Done (run (view n c s) (Call.Connect h m)) n c s s ls ls r
+      pub connect_bound : (k : ℕ) → slot.state ≡ Bound k → r ≡ refused_with 2 → Done (run (view n c s) (Call.Connect h m)) n c s s ls ls r
       unfolding do_connect show_in
-      connect-bound k e er = refused-done _ 2 n c s ls r (by_state (Bound k) e) (λ z. omega arith) er
+      connect_bound k e er = refused_done _ 2 n c s ls r (by_state (Bound k) e) (λ z. omega arith) er
 
-      pub connect-listening : (q : Listener) → slot.state ≡ Listening q → r ≡ refused_with 6 → Done (run (view n c s) (Call.Connect h m)) n c s s ls ls r
+      pub connect_listening : (q : Listener) → slot.state ≡ Listening q → r ≡ refused_with 6 → Done (run (view n c s) (Call.Connect h m)) n c s s ls ls r
       unfolding do_connect show_in
-      connect-listening q e er = refused-done _ 6 n c s ls r (by_state (Listening q) e) (λ z. omega arith) er
+      connect_listening q e er = refused_done _ 6 n c s ls r (by_state (Listening q) e) (λ z. omega arith) er
 
-      pub connect-connected : (k : Connection) → slot.state ≡ Connected k → r ≡ refused_with 5 → Done (run (view n c s) (Call.Connect h m)) n c s s ls ls r
+      pub connect_connected : (k : Connection) → slot.state ≡ Connected k → r ≡ refused_with 5 → Done (run (view n c s) (Call.Connect h m)) n c s s ls ls r
       unfolding do_connect show_in
-      connect-connected k e er = refused-done _ 5 n c s ls r (by_state (Connected k) e) (λ z. omega arith) er
+      connect_connected k e er = refused_done _ 5 n c s ls r (by_state (Connected k) e) (λ z. omega arith) er
 
-      pub connect-unbound : slot.state ≡ Unbound → Caller n s.words h m
-      connect-unbound e = record { lives = sym eb ∙ not-false b d; unbound = own Unbound e; some-name = some; short-name = short }
+      pub connect_unbound : slot.state ≡ Unbound → Caller n s.words h m
+      connect_unbound e = record { lives = sym eb ∙ not-false b d; unbound = own Unbound e; some_name = some; short_name = short }
 
 -- ── The socket of that name ──
 
@@ -94,94 +94,94 @@ module _ (n c : ℕ) (s : Store) (ls : Lists) (h : ℕ) (m : List ℕ) (r : Answ
   reaches : run (view n c s) (Call.Connect h m) ≡ reach (view n c s) h (handle_at (view n c s) l) (at (view n c s) l).state
   unfolding run do_connect show_in
   reaches =
-      named-run n c s h calls _ m a.some-name a.short-name
-      ∙ ap (do_connect (view n c s) h m) (state-seen n c s h Unbound calls.within a.unbound)
-      ∙ ap (λ (y : ℕ). reach (view n c s) h (handle_at (view n c s) y) (at (view n c s) y).state) (sym (holder-view n c s m) ∙ sym el)
+      named_run n c s h calls _ m a.some_name a.short_name
+      ∙ ap (do_connect (view n c s) h m) (state_seen n c s h Unbound calls.within a.unbound)
+      ∙ ap (λ (y : ℕ). reach (view n c s) h (handle_at (view n c s) y) (at (view n c s) y).state) (sym (holder_view n c s m) ∙ sym el)
 
-  pub reach-none : n ≤ l → r ≡ refused_with 7 → Done (run (view n c s) (Call.Connect h m)) n c s s ls ls r
+  pub reach_none : n ≤ l → r ≡ refused_with 7 → Done (run (view n c s) (Call.Connect h m)) n c s s ls ls r
   unfolding reach
-  reach-none hl er =
-      refused-done _ 7 n c s ls r (reaches ∙ ap (λ (y : model.Slot). reach (view n c s) h (handle_at (view n c s) l) y.state) (at_none n c s l hl)) (λ z. omega arith) er
+  reach_none hl er =
+      refused_done _ 7 n c s ls r (reaches ∙ ap (λ (y : model.Slot). reach (view n c s) h (handle_at (view n c s) l) y.state) (at_none n c s l hl)) (λ z. omega arith) er
 
   module _ (hl : l < n) (f : Slot) (ef : f ≡ loaded_at s.words l) where
-    in-state : (σ : State) → f.state ≡ σ
+    in_state : (σ : State) → f.state ≡ σ
         → run (view n c s) (Call.Connect h m) ≡ reach (view n c s) h (handle_at (view n c s) l) (show_in (row_at n c s l) (cell_at s.words l).generation σ).state
-    in-state σ e =
+    in_state σ e =
         reaches
         ∙ ap (λ (y : model.Slot). reach (view n c s) h (handle_at (view n c s) l) y.state) (seen n c s l σ hl (sym (ap (λ (y : Slot). y.state) ef) ∙ e))
 
-    other-refused : (σ : State) → ((q : Listener) → σ ≡ Listening q → ⊥)
+    other_refused : (σ : State) → ((q : Listener) → σ ≡ Listening q → ⊥)
         → reach (view n c s) h (handle_at (view n c s) l) (show_in (row_at n c s l) (cell_at s.words l).generation σ).state ≡ refuse (view n c s) 7
     unfolding reach show_in
-    other-refused Closed ne = refl
-    other-refused Unbound ne = refl
-    other-refused (Bound z) ne = refl
-    other-refused (Listening q) ne = absurd (ne q refl)
-    other-refused (Connected z) ne = refl
+    other_refused Closed ne = refl
+    other_refused Unbound ne = refl
+    other_refused (Bound z) ne = refl
+    other_refused (Listening q) ne = absurd (ne q refl)
+    other_refused (Connected z) ne = refl
 
     -- its handle is a word
-    pub found-handle : (f.generation ≤ 4294967295) × (l < 65536)
-    found-handle =
+    pub found_handle : (f.generation ≤ 4294967295) × (l < 65536)
+    found_handle =
         let y = (k.good.shape.good l).young in
-        let z = gen-at n c s l hl in
+        let z = gen_at n c s l hl in
         let v = ap (λ (y : Slot). y.generation) ef in
         let few = k.roomy.few in
         (omega arith, omega arith)
 
-    pub reach-other : ((q : Listener) → f.state ≡ Listening q → ⊥) → r ≡ refused_with 7 → Done (run (view n c s) (Call.Connect h m)) n c s s ls ls r
-    reach-other ne er = refused-done _ 7 n c s ls r (in-state f.state refl ∙ other-refused f.state ne) (λ z. omega arith) er
+    pub reach_other : ((q : Listener) → f.state ≡ Listening q → ⊥) → r ≡ refused_with 7 → Done (run (view n c s) (Call.Connect h m)) n c s s ls ls r
+    reach_other ne er = refused_done _ 7 n c s ls r (in_state f.state refl ∙ other_refused f.state ne) (λ z. omega arith) er
 
     module _ (q : Listener) (eq : f.state ≡ Listening q) where
       listens : state_of (cell_at s.words l) ≡ Listening q
       listens = sym (ap (λ (y : Slot). y.state) ef) ∙ eq
 
-      pub listener-in : (q.name ≤ 255) × (q.backlog < 4294967296) × (q.head < n) × (q.pending ≤ n)
-      listener-in = listener-at k hl listens
+      pub listener_in : (q.name ≤ 255) × (q.backlog < 4294967296) × (q.head < n) × (q.pending ≤ n)
+      listener_in = listener_at k hl listens
 
       abbrev pending : List ℕ
       pending = queued (row_at n c s l).queue q.head q.pending
 
-      pending-many : length pending ≡ q.pending
+      pending_many : length pending ≡ q.pending
       unfolding row_at
-      pending-many =
-          let y = listener-in.2 in
-          let z = listener-in.3 in
+      pending_many =
+          let y = listener_in.2 in
+          let z = listener_in.3 in
           let v = queue_long n c s k.roomy l hl in
           queued-length (row_at n c s l).queue q.head (omega arith) q.pending (omega arith)
 
-      pub reach-full : q.backlog ≤ q.pending → r ≡ refused_with 8 → Done (run (view n c s) (Call.Connect h m)) n c s s ls ls r
+      pub reach_full : q.backlog ≤ q.pending → r ≡ refused_with 8 → Done (run (view n c s) (Call.Connect h m)) n c s s ls ls r
       unfolding reach show_in is_full refuse_if
-      reach-full g er =
-          refused-done _ 8 n c s ls r (in-state (Listening q) eq ∙ rw (le-leb q.backlog (length pending) (omega (arith, pending-many)))) (λ z. omega arith) er
+      reach_full g er =
+          refused_done _ 8 n c s ls r (in_state (Listening q) eq ∙ rw (le-leb q.backlog (length pending) (omega (arith, pending_many)))) (λ z. omega arith) er
 
       module _ (g : q.pending < q.backlog) (j : ℕ) (ej : j ≡ least n (λ i. free_cell (cell_at s.words i))) where
-        pub reach-no-slot : j ≡ n → r ≡ refused_with 16 → Done (run (view n c s) (Call.Connect h m)) n c s s ls ls r
+        pub reach_no_slot : j ≡ n → r ≡ refused_with 16 → Done (run (view n c s) (Call.Connect h m)) n c s s ls ls r
         unfolding reach show_in is_full refuse_if
-        reach-no-slot z er =
-            refused-done _ 16 n c s ls r (in-state (Listening q) eq ∙ rw (lt-leb q.backlog (length pending) (omega (arith, pending-many)), none_free n c s j ej z)) (λ z. omega arith) er
+        reach_no_slot z er =
+            refused_done _ 16 n c s ls r (in_state (Listening q) eq ∙ rw (lt-leb q.backlog (length pending) (omega (arith, pending_many)), none_free n c s j ej z)) (λ z. omega arith) er
 
         -- what the stores ask
-        pub join-asks : (j ≡ n → ⊥) → ((slot_of h < n) × (l < n) × (j < n) × (n ≤ 1024) × (8 + 272 * n + n * n ≤ length s.words))
+        pub join_asks : (j ≡ n → ⊥) → ((slot_of h < n) × (l < n) × (j < n) × (n ≤ 1024) × (8 + 272 * n + n * n ≤ length s.words))
             × (((cell_at s.words j).generation < 4294967295) × (q.head < n) × (q.pending ≤ n))
-        join-asks ne =
-            let fr : Free n c s j = free-found n c s j ej ne in
-            ((calls.within, hl, fr.within, k.roomy.few, k.roomy.words), (fr.young, listener-in.2, listener-in.3))
+        join_asks ne =
+            let fr : Free n c s j = free_found n c s j ej ne in
+            ((calls.within, hl, fr.within, k.roomy.few, k.roomy.words), (fr.young, listener_in.2, listener_in.3))
 
-        pub reach-made : (j ≡ n → ⊥) → (w' : List ℕ) (lh : ℕ) (u' : List ℕ) → w' ≡ joined n s.words h l f.generation q j → lh ≡ handle f.generation l
+        pub reach_made : (j ≡ n → ⊥) → (w' : List ℕ) (lh : ℕ) (u' : List ℕ) → w' ≡ joined n s.words h l f.generation q j → lh ≡ handle f.generation l
             → u' ≡ sets ls.wakes 0 (lh ∷ h ∷ []) → r ≡ accepted_with 0 2
             → Done (run (view n c s) (Call.Connect h m)) n c s (lent w' s.bytes s.tokens) ls (lists u' ls.releases) r
         unfolding reach show_in is_full refuse_if row_at
-        reach-made ne w' lh u' ew eh eu er =
-            let fr : Free n c s j = free-found n c s j ej ne in
+        reach_made ne w' lh u' ew eh eu er =
+            let fr : Free n c s j = free_found n c s j ej ne in
             let t : Table = view n c s in
             let gf : f.generation ≡ (cell_at s.words l).generation = ap (λ (y : Slot). y.generation) ef in
             let o_is : run t (Call.Connect h m) ≡ answer (connected t h (handle_at t l) (take q.name (row_at n c s l).room) q.backlog pending) 0 (handle_at t l ∷ h ∷ []) [] =
-            in-state (Listening q) eq ∙ rw (lt-leb q.backlog (length pending) (omega (arith, pending-many)), fr.is_some) refl in
+            in_state (Listening q) eq ∙ rw (lt-leb q.backlog (length pending) (omega (arith, pending_many)), fr.is_some) refl in
             let after : lent w' s.bytes s.tokens ≡ _ =
             ap (λ (u : List ℕ). lent u s.bytes s.tokens) (ew ∙ ap (λ (y : ℕ). joined n s.words h l y q j) gf)
-            ∙ joined_is n c s k h l j q calls.within hl fr.within a.unbound listens fr.is-closed in
-            let wake : lh ≡ handle_at t l = eh ∙ ap (λ (y : ℕ). handle y l) (gf ∙ sym (gen-at n c s l hl)) in
-            accepted-done (run t (Call.Connect h m)) _ 0 (handle_at t l ∷ h ∷ []) n c s (lent w' s.bytes s.tokens) ls (lists u' ls.releases) r o_is
+            ∙ joined_is n c s k h l j q calls.within hl fr.within a.unbound listens fr.is_closed in
+            let wake : lh ≡ handle_at t l = eh ∙ ap (λ (y : ℕ). handle y l) (gf ∙ sym (gen_at n c s l hl)) in
+            accepted_done (run t (Call.Connect h m)) _ 0 (handle_at t l ∷ h ∷ []) n c s (lent w' s.bytes s.tokens) ls (lists u' ls.releases) r o_is
             (subst (λ (y : Store). Stored n c s y (run t (Call.Connect h m))) (sym after)
-            (joined-stored n c s k h l j q calls.within hl fr.within a.unbound listens fr.is-closed (Call.Connect h m) fr.is-first (ap (λ (y : Outcome). y.next) o_is)))
+            (joined_stored n c s k h l j q calls.within hl fr.within a.unbound listens fr.is_closed (Call.Connect h m) fr.is_first (ap (λ (y : Outcome). y.next) o_is)))
             (eu ∙ ap (λ (y : ℕ). sets ls.wakes 0 (y ∷ h ∷ [])) wake) refl er

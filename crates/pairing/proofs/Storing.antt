@@ -33,15 +33,15 @@ paired w w' w'' h f j g l x server a b i es ea e₁ eb ei e₂ =
           ∙ ap (λ (y : Connection). store_at (store_at w j (cell_of g (Connected (new_end h (l + 1) x)))) (slot_of h) (cell_of f (Connected y))) eb',
     )
 
-pub queued-up : (n : ℕ) (w w' w'' : List ℕ) (l g : ℕ) (q : Listener) (x s : ℕ) → w' ≡ set w (queue_base n l + x) s → w'' ≡ store_at w' l (cell_of g (Listening (one_more q))) → w'' ≡ queue_up n w l g q x s
+pub queued_up : (n : ℕ) (w w' w'' : List ℕ) (l g : ℕ) (q : Listener) (x s : ℕ) → w' ≡ set w (queue_base n l + x) s → w'' ≡ store_at w' l (cell_of g (Listening (one_more q))) → w'' ≡ queue_up n w l g q x s
 unfolding queue_up
-queued-up n w w' w'' l g q x s e₁ e₂ = e₂ ∙ ap (λ (u : List ℕ). store_at u l (cell_of g (Listening (one_more q)))) e₁
+queued_up n w w' w'' l g q x s e₁ e₂ = e₂ ∙ ap (λ (u : List ℕ). store_at u l (cell_of g (Listening (one_more q)))) e₁
 
-pub all-joined : (n : ℕ) (w w' w'' : List ℕ) (h l g : ℕ) (q : Listener) (j i : ℕ) (a b : Slot) (x s : ℕ) → i ≡ slot_of h → a ≡ loaded_at w i
+pub all_joined : (n : ℕ) (w w' w'' : List ℕ) (h l g : ℕ) (q : Listener) (j i : ℕ) (a b : Slot) (x s : ℕ) → i ≡ slot_of h → a ≡ loaded_at w i
     → b ≡ loaded_at w j → x ≡ place_of n (q.head + q.pending) → s ≡ handle (b.generation + 1) j
     → w' ≡ pair_in w h a.generation j (b.generation + 1) l x → w'' ≡ queue_up n w' l g q x s → w'' ≡ joined n w h l g q j
 unfolding joined
-all-joined n w w' w'' h l g q j i a b x s ei ea eb ex es e₁ e₂ =
+all_joined n w w' w'' h l g q j i a b x s ei ea eb ex es e₁ e₂ =
     let ga : a.generation ≡ (cell_at w (slot_of h)).generation = ap (λ (y : Slot). y.generation) ea ∙ ap (λ (y : ℕ). (cell_at w y).generation) ei in
     let gb : b.generation + 1 ≡ (cell_at w j).generation + 1 = ap (λ (y : Slot). y.generation + 1) eb in
     let u : w' ≡ pair_in w h (cell_at w (slot_of h)).generation j ((cell_at w j).generation + 1) l (place_of n (q.head + q.pending)) =
@@ -57,9 +57,9 @@ module _ (w : List ℕ) (j : ℕ) (b : Slot) (eb : b ≡ loaded_at w j) (young :
   pub new_word : b.generation + 1 < 2 ^ 64
   new_word = let z = ap (λ (y : Slot). y.generation) eb in omega arith
 
-  pub pair-asks : (n h l : ℕ) → (slot_of h < n) × (l < n) × (j < n) × (n ≤ 1024) × (8 + 272 * n + n * n ≤ length w)
+  pub pair_asks : (n h l : ℕ) → (slot_of h < n) × (l < n) × (j < n) × (n ≤ 1024) × (8 + 272 * n + n * n ≤ length w)
       → (8 + 16 * j + 16 ≤ length w) × (8 + 16 * slot_of h + 16 ≤ length w) × (b.generation + 1 ≤ 4294967295) × (j < 65536) × (l < 65536)
-  pair-asks n h l p =
+  pair_asks n h l p =
       let z = ap (λ (y : Slot). y.generation) eb in
       let p₀ = p.0 in
       let p₁ = p.1 in

@@ -8,5 +8,5 @@ use Rattle.storage.specs.declared.State.TheVariants.{Unbound}
 pub record Caller (n : ℕ) (w : List ℕ) (h : ℕ) (name : List ℕ) : Type 0 where
   pub lives : live_in n w h ≡ true
   pub unbound : state_of (cell_at w (slot_of h)) ≡ Unbound
-  pub some-name : length name ≡ 0 → ⊥
-  pub short-name : length name ≤ 255
+  pub some_name : length name ≡ 0 → ⊥
+  pub short_name : length name ≤ 255

@@ -4,8 +4,8 @@ use Prim.Native.Nat.{ℕ}
 use Rattle.promise.specs.Answers.{refused_with}
 use Rattle.promise.specs.declared.Answer.{Answer}
 
-pub refused-is : (e x : ℕ) → x ≡ e → ◌≡◌ {A = Answer} (record { refusal = x; flags = 0; value = 0; items = 0; wakes = 0; releases = 0 }) (refused_with e)
-refused-is e x h = rw h
+pub refused_is : (e x : ℕ) → x ≡ e → ◌≡◌ {A = Answer} (record { refusal = x; flags = 0; value = 0; items = 0; wakes = 0; releases = 0 }) (refused_with e)
+refused_is e x h = rw h
 
 -- two answers with the same fields
 pub same_answer : (r r' : Answer) → r.refusal ≡ r'.refusal → r.flags ≡ r'.flags → r.value ≡ r'.value → r.items ≡ r'.items → r.wakes ≡ r'.wakes → r.releases ≡ r'.releases → r ≡ r'

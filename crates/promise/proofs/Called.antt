@@ -22,12 +22,12 @@ use Rattle.promise.proofs.Live.{Live, live}
 -- slot i of the handle h is of generation g, in the state σ
 pub record Called (n c : ℕ) (s : Store) (h i g : ℕ) (σ : State) : Type 0 where
   pub lives : Live n c s h
-  pub is-slot : i ≡ slot_of h
+  pub is_slot : i ≡ slot_of h
   pub within : i < n
   pub gen : (cell_at s.words i).generation ≡ g
   pub state : state_of (cell_at s.words i) ≡ σ
   pub shown : at (view n c s) i ≡ show_in (row_at n c s i) g σ
-  pub state-shown : model.state_of (view n c s) h ≡ (show_in (row_at n c s i) g σ).state
+  pub state_shown : model.state_of (view n c s) h ≡ (show_in (row_at n c s i) g σ).state
 
 pub called : (n c : ℕ) (s : Store) (h : ℕ) (b : Bool) (i : ℕ) (x : Slot) (σ : State) → b ≡ live_in n s.words h → not b ≡ false → i ≡ slot_of h
     → x ≡ loaded_at s.words i → x.state ≡ σ → Called n c s h i x.generation σ
@@ -40,19 +40,19 @@ called n c s h b i x σ eb lv ei ex es =
     let sh : at (view n c s) i ≡ show_in (row_at n c s i) x.generation σ = seen n c s i σ hi st ∙ ap (λ (g : ℕ). show_in (row_at n c s i) g σ) eg in
     record {
       lives = l;
-      is-slot = ei;
+      is_slot = ei;
       within = hi;
       gen = eg;
       state = st;
       shown = sh;
-      state-shown = ap (λ (j : ℕ). (at (view n c s) j).state) (sym ei) ∙ ap (λ (y : model.Slot). y.state) sh;
+      state_shown = ap (λ (j : ℕ). (at (view n c s) j).state) (sym ei) ∙ ap (λ (y : model.Slot). y.state) sh;
     }
 
 -- the same socket in another state
-pub become-is : (t : Table) (h i : ℕ) (x : model.Slot) (σ : model.State) → i ≡ slot_of h → at t i ≡ x
+pub become_is : (t : Table) (h i : ℕ) (x : model.Slot) (σ : model.State) → i ≡ slot_of h → at t i ≡ x
     → become t h σ ≡ put t i (record { gen = x.gen; in_use = x.in_use; given = x.given; state = σ })
 unfolding become
-become-is t h i x σ ei ex =
+become_is t h i x σ ei ex =
     ap (λ (j : ℕ). put t j (record { gen = (at t j).gen; in_use = (at t j).in_use; given = (at t j).given; state = σ })) (sym ei)
     ∙ ap (λ (y : model.Slot). put t i (record { gen = y.gen; in_use = y.in_use; given = y.given; state = σ })) ex
 

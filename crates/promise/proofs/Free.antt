@@ -15,61 +15,61 @@ use Rattle.storage.specs.View.{view}
 use Rattle.storage.specs.Finding.{least, occupied, free_cell}
 use Rattle.storage.specs.declared.State.{State}
 use Rattle.storage.specs.declared.State.TheVariants.{Closed, Unbound, Bound, Listening, Connected}
-use Rattle.storage.proofs.Viewed.{free-view, size-view, gen-at}
+use Rattle.storage.proofs.Viewed.{free_view, size_view, gen_at}
 
-least-low : (n : ℕ) (p : ℕ → Bool) → least n p ≤ n
+least_low : (n : ℕ) (p : ℕ → Bool) → least n p ≤ n
 unfolding least
-least-low zero p = omega arith
-least-low (suc n) p = go (p zero) (least-low n (λ k. p (suc k)))
+least_low zero p = omega arith
+least_low (suc n) p = go (p zero) (least_low n (λ k. p (suc k)))
   where
     go : (b : Bool) → least n (λ k. p (suc k)) ≤ n → cond b zero (suc (least n (λ k. p (suc k)))) ≤ suc n
     go true h = omega arith
     go false h = omega arith
 
-least-passes : (n : ℕ) (p : ℕ → Bool) → least n p < n → p (least n p) ≡ true
+least_passes : (n : ℕ) (p : ℕ → Bool) → least n p < n → p (least n p) ≡ true
 unfolding least
-least-passes zero p h = absurd (let z : zero < zero = h in omega arith)
-least-passes (suc n) p h = go (p zero) refl h (λ z. least-passes n (λ k. p (suc k)) z)
+least_passes zero p h = absurd (let z : zero < zero = h in omega arith)
+least_passes (suc n) p h = go (p zero) refl h (λ z. least_passes n (λ k. p (suc k)) z)
   where
     go : (b : Bool) → p zero ≡ b → cond b zero (suc (least n (λ k. p (suc k)))) < suc n → (least n (λ k. p (suc k)) < n → p (suc (least n (λ k. p (suc k)))) ≡ true)
         → p (cond b zero (suc (least n (λ k. p (suc k))))) ≡ true
     go true e h' f = e
     go false e h' f = f (omega arith)
 
-occupied-not : (σ : State) → not (occupied σ) ≡ true → σ ≡ Closed
-occupied-not Closed e = refl
-occupied-not Unbound e = absurd (false≢true e)
-occupied-not (Bound m) e = absurd (false≢true e)
-occupied-not (Listening l) e = absurd (false≢true e)
-occupied-not (Connected k) e = absurd (false≢true e)
+occupied_not : (σ : State) → not (occupied σ) ≡ true → σ ≡ Closed
+occupied_not Closed e = refl
+occupied_not Unbound e = absurd (false≢true e)
+occupied_not (Bound m) e = absurd (false≢true e)
+occupied_not (Listening l) e = absurd (false≢true e)
+occupied_not (Connected k) e = absurd (false≢true e)
 
 -- a search that found none
 pub none_free : (n c : ℕ) (s : Store) (i : ℕ) → i ≡ least n (λ j. free_cell (cell_at s.words j)) → i ≡ n → no_slot (view n c s) ≡ true
 unfolding no_slot
-none_free n c s i e z = let f = free-view n c s in let y = size-view n c s in le-leb (length (view n c s).slots) (free_slot (view n c s)) (omega arith)
+none_free n c s i e z = let f = free_view n c s in let y = size_view n c s in le-leb (length (view n c s).slots) (free_slot (view n c s)) (omega arith)
 
 -- and one that did
 pub record Free (n c : ℕ) (s : Store) (i : ℕ) : Type 0 where
   pub within : i < n
-  pub is-closed : state_of (cell_at s.words i) ≡ Closed
+  pub is_closed : state_of (cell_at s.words i) ≡ Closed
   pub young : (cell_at s.words i).generation < 4294967295
-  pub is-first : i ≡ free_slot (view n c s)
+  pub is_first : i ≡ free_slot (view n c s)
   pub is_some : no_slot (view n c s) ≡ false
   pub was : (at (view n c s) i).gen ≡ (cell_at s.words i).generation
 
-pub free-found : (n c : ℕ) (s : Store) (i : ℕ) → i ≡ least n (λ j. free_cell (cell_at s.words j)) → i ≢ n → Free n c s i
+pub free_found : (n c : ℕ) (s : Store) (i : ℕ) → i ≡ least n (λ j. free_cell (cell_at s.words j)) → i ≢ n → Free n c s i
 unfolding no_slot free_cell
-free-found n c s i e ne =
-    let low = least-low n (λ j. free_cell (cell_at s.words j)) in
+free_found n c s i e ne =
+    let low = least_low n (λ j. free_cell (cell_at s.words j)) in
     let h : i < n = omega arith in
-    let p : free_cell (cell_at s.words i) ≡ true = ap (λ (j : ℕ). free_cell (cell_at s.words j)) e ∙ least-passes n (λ j. free_cell (cell_at s.words j)) (omega arith) in
-    let f = free-view n c s in
-    let y = size-view n c s in
+    let p : free_cell (cell_at s.words i) ≡ true = ap (λ (j : ℕ). free_cell (cell_at s.words j)) e ∙ least_passes n (λ j. free_cell (cell_at s.words j)) (omega arith) in
+    let f = free_view n c s in
+    let y = size_view n c s in
     record {
       within = h;
-      is-closed = occupied-not (state_of (cell_at s.words i)) (and_left (not (occupied (state_of (cell_at s.words i)))) (ltb (cell_at s.words i).generation 4294967295) p);
+      is_closed = occupied_not (state_of (cell_at s.words i)) (and_left (not (occupied (state_of (cell_at s.words i)))) (ltb (cell_at s.words i).generation 4294967295) p);
       young = ltb-true (cell_at s.words i).generation 4294967295 (and_right (not (occupied (state_of (cell_at s.words i)))) (ltb (cell_at s.words i).generation 4294967295) p);
-      is-first = e ∙ f;
+      is_first = e ∙ f;
       is_some = lt-leb (length (view n c s).slots) (free_slot (view n c s)) (omega arith);
-      was = gen-at n c s i h;
+      was = gen_at n c s i h;
     }

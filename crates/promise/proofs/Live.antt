@@ -8,7 +8,7 @@ use native.Mathlib.Omega.{arith}
 use lib.Dec.{ltb, eqb}
 use lib.ListN.{length}
 use borrow.Author.Tests.{not-true, not-false, eqb-true, ltb-true, le-ltb, lt-ltb}
-use Rattle.laws.proofs.Tests.{and_left, and_right, and-three}
+use Rattle.laws.proofs.Tests.{and_left, and_right, and_three}
 use Rattle.rules.specs.Table as model
 use Rattle.rules.specs.Table.{slot_of, handle, is_open, is_live}
 use Rattle.rules.specs.Inbox.{is_nil}
@@ -20,7 +20,7 @@ use Rattle.storage.specs.View.{view, show_in}
 use Rattle.storage.specs.Finding.{occupied, waiting, open_in, live_in}
 use Rattle.storage.specs.declared.State.{State}
 use Rattle.storage.specs.declared.State.TheVariants.{Closed}
-use Rattle.storage.proofs.Viewed.{open-view, live_view, seen}
+use Rattle.storage.proofs.Viewed.{open_view, live_view, seen}
 
 -- ── An open handle, pending or not ──
 
@@ -33,8 +33,8 @@ pub record Opened (n c : ℕ) (s : Store) (h : ℕ) : Type 0 where
 pub opened : (n c : ℕ) (s : Store) (h : ℕ) → is_open (view n c s) h ≡ true → Opened n c s h
 unfolding open_in
 opened n c s h e =
-    let o : open_in n s.words h ≡ true = open-view n c s h ∙ e in
-    let p = and-three (ltb (slot_of h) n) (eqb (handle (cell_at s.words (slot_of h)).generation (slot_of h)) h) (occupied (state_of (cell_at s.words (slot_of h)))) o in
+    let o : open_in n s.words h ≡ true = open_view n c s h ∙ e in
+    let p = and_three (ltb (slot_of h) n) (eqb (handle (cell_at s.words (slot_of h)).generation (slot_of h)) h) (occupied (state_of (cell_at s.words (slot_of h)))) o in
     record {
       within = ltb-true (slot_of h) n p.0;
       opened = e;
@@ -57,7 +57,7 @@ unfolding live_in
 live n c s h r e d =
     let yes : live_in n s.words h ≡ true = sym e ∙ not-false r d in
     let o : open_in n s.words h ≡ true = and_left (open_in n s.words h) (not (waiting (state_of (cell_at s.words (slot_of h))))) yes in
-    let p = opened n c s h (sym (open-view n c s h) ∙ o) in
+    let p = opened n c s h (sym (open_view n c s h) ∙ o) in
     record {
       within = p.within;
       lives = sym (live_view n c s h) ∙ yes;
@@ -68,29 +68,29 @@ live n c s h r e d =
     }
 
 -- no live socket is closed, and a connected one waits for nothing
-pub not-closed : {A : Type 0} (n c : ℕ) (s : Store) (h : ℕ) → Live n c s h → state_of (cell_at s.words (slot_of h)) ≡ Closed → A
-not-closed n c s h l e = absurd (false≢true (sym (ap occupied e) ∙ l.used))
+pub not_closed : {A : Type 0} (n c : ℕ) (s : Store) (h : ℕ) → Live n c s h → state_of (cell_at s.words (slot_of h)) ≡ Closed → A
+not_closed n c s h l e = absurd (false≢true (sym (ap occupied e) ∙ l.used))
 
 -- ── The state that the model sees ──
 
-pub state-seen : (n c : ℕ) (s : Store) (h : ℕ) (σ : State) → slot_of h < n → state_of (cell_at s.words (slot_of h)) ≡ σ
+pub state_seen : (n c : ℕ) (s : Store) (h : ℕ) (σ : State) → slot_of h < n → state_of (cell_at s.words (slot_of h)) ≡ σ
     → model.state_of (view n c s) h ≡ (show_in (row_at n c s (slot_of h)) (cell_at s.words (slot_of h)).generation σ).state
 unfolding model.state_of
-state-seen n c s h σ l e = ap (λ (x : model.Slot). x.state) (seen n c s (slot_of h) σ l e)
+state_seen n c s h σ l e = ap (λ (x : model.Slot). x.state) (seen n c s (slot_of h) σ l e)
 
 -- ── The order of refusals: the handle, then the name ──
 
-pub stale-run : (n c : ℕ) (s : Store) (h : ℕ) (r : Bool) (o : Outcome) → r ≡ live_in n s.words h → not r ≡ true → on_live (view n c s) h o ≡ refuse (view n c s) 1
+pub stale_run : (n c : ℕ) (s : Store) (h : ℕ) (r : Bool) (o : Outcome) → r ≡ live_in n s.words h → not r ≡ true → on_live (view n c s) h o ≡ refuse (view n c s) 1
 unfolding on_live refuse_if
-stale-run n c s h r o e d = rw (sym (live_view n c s h) ∙ sym e ∙ not-true r d)
+stale_run n c s h r o e d = rw (sym (live_view n c s h) ∙ sym e ∙ not-true r d)
 
-pub live-run : (n c : ℕ) (s : Store) (h : ℕ) (o : Outcome) → Live n c s h → on_live (view n c s) h o ≡ o
+pub live_run : (n c : ℕ) (s : Store) (h : ℕ) (o : Outcome) → Live n c s h → on_live (view n c s) h o ≡ o
 unfolding on_live refuse_if
-live-run n c s h o l = rw l.lives
+live_run n c s h o l = rw l.lives
 
-pub stale-name : (n c : ℕ) (s : Store) (h : ℕ) (r : Bool) (m : List ℕ) (o : Outcome) → r ≡ live_in n s.words h → not r ≡ true → on_name (view n c s) h m o ≡ refuse (view n c s) 1
+pub stale_name : (n c : ℕ) (s : Store) (h : ℕ) (r : Bool) (m : List ℕ) (o : Outcome) → r ≡ live_in n s.words h → not r ≡ true → on_name (view n c s) h m o ≡ refuse (view n c s) 1
 unfolding on_name
-stale-name n c s h r m o e d = stale-run n c s h r _ e d
+stale_name n c s h r m o e d = stale_run n c s h r _ e d
 
 module _ (n c : ℕ) (s : Store) (h : ℕ) (l : Live n c s h) (o : Outcome) where
   empty_name : (m : List ℕ) → length m ≡ 0 → is_nil m ≡ true
@@ -98,19 +98,19 @@ module _ (n c : ℕ) (s : Store) (h : ℕ) (l : Live n c s h) (o : Outcome) wher
   empty_name [] e = refl
   empty_name (x ∷ m) e = absurd (let z : suc (length m) ≡ 0 = e in omega arith)
 
-  some-name : (m : List ℕ) → length m ≢ 0 → is_nil m ≡ false
+  some_name : (m : List ℕ) → length m ≢ 0 → is_nil m ≡ false
   unfolding is_nil
-  some-name [] e = absurd (e refl)
-  some-name (x ∷ m) e = refl
+  some_name [] e = absurd (e refl)
+  some_name (x ∷ m) e = refl
 
   pub no_name : (m : List ℕ) → length m ≡ 0 → on_name (view n c s) h m o ≡ refuse (view n c s) 2
   unfolding on_name refuse_if
-  no_name m e = live-run n c s h _ l ∙ rw (empty_name m e)
+  no_name m e = live_run n c s h _ l ∙ rw (empty_name m e)
 
-  pub long-name : (m : List ℕ) → length m ≢ 0 → 255 < length m → on_name (view n c s) h m o ≡ refuse (view n c s) 17
+  pub long_name : (m : List ℕ) → length m ≢ 0 → 255 < length m → on_name (view n c s) h m o ≡ refuse (view n c s) 17
   unfolding on_name refuse_if
-  long-name m e g = live-run n c s h _ l ∙ rw (some-name m e, lt-ltb 255 (length m) g)
+  long_name m e g = live_run n c s h _ l ∙ rw (some_name m e, lt-ltb 255 (length m) g)
 
-  pub named-run : (m : List ℕ) → length m ≢ 0 → length m ≤ 255 → on_name (view n c s) h m o ≡ o
+  pub named_run : (m : List ℕ) → length m ≢ 0 → length m ≤ 255 → on_name (view n c s) h m o ≡ o
   unfolding on_name refuse_if
-  named-run m e g = live-run n c s h _ l ∙ rw (some-name m e, le-ltb 255 (length m) g)
+  named_run m e g = live_run n c s h _ l ∙ rw (some_name m e, le-ltb 255 (length m) g)

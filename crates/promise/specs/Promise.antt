@@ -38,14 +38,14 @@ pub record Stored (n c : ℕ) (s s' : Store) (o : Outcome) : Type 0 where
 
 pub record Done (o : Outcome) (n c : ℕ) (s s' : Store) (l l' : Lists) (r : Answer) : Type 0 where
   pub refusal_is : r.refusal ≡ o.no
-  pub value-is : r.value ≡ o.value
-  pub flags-are : r.flags ≡ o.flags
+  pub value_is : r.value ≡ o.value
+  pub flags_are : r.flags ≡ o.flags
   pub item_count : r.items ≡ length o.items
-  pub wake-count : r.wakes ≡ length o.wakes
-  pub release-count : r.releases ≡ length o.releases
+  pub wake_count : r.wakes ≡ length o.wakes
+  pub release_count : r.releases ≡ length o.releases
   -- "entries beyond a count stay as they were"
-  pub wake-list : l'.wakes ≡ sets l.wakes 0 o.wakes
-  pub release-list : l'.releases ≡ sets l.releases 0 o.releases
+  pub wake_list : l'.wakes ≡ sets l.wakes 0 o.wakes
+  pub release_list : l'.releases ≡ sets l.releases 0 o.releases
   pub accepted : o.no ≡ 0 → Stored n c s s' o
   -- "no lent byte differs"
   pub refused : (o.no ≡ 0 → ⊥) → s' ≡ s
@@ -53,7 +53,7 @@ pub record Done (o : Outcome) (n c : ℕ) (s s' : Store) (l l' : Lists) (r : Ans
 -- the caller's buffer and item list: what was moved, and the rest as it was
 pub record Filled (o : Outcome) (buf buf' items items' : List ℕ) : Type 0 where
   pub buffer : buf' ≡ sets buf 0 o.bytes
-  pub item-list : items' ≡ sets items 0 o.items
+  pub item_list : items' ≡ sets items 0 o.items
 
 -- ── The promise of a call on a table that has been admitted ──
 

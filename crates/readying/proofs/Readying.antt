@@ -27,17 +27,17 @@ use Rattle.storage.specs.declared.State.{State}
 use Rattle.storage.specs.declared.State.TheVariants.{Closed, Unbound, Bound, Listening, Connected}
 use Rattle.storage.specs.declared.Listener.{Listener}
 use Rattle.storage.specs.declared.Connection.{Connection}
-use Rattle.storage.proofs.Coding.{loaded-state, loaded_at}
-use Rattle.storage.proofs.Finds.{open-slot}
-use Rattle.storage.proofs.Viewed.{open-view}
+use Rattle.storage.proofs.Coding.{loaded_state, loaded_at}
+use Rattle.storage.proofs.Finds.{open_slot}
+use Rattle.storage.proofs.Viewed.{open_view}
 use Rattle.table.proofs.Links.{queue-length}
 use Rattle.promise.specs.Answers.{refused_with, accepted_with}
 use Rattle.promise.specs.Promise.{Lists, Done}
 use Rattle.promise.specs.declared.Answer.{Answer}
-use Rattle.promise.proofs.Known.{Known, refused-done, listener-at}
+use Rattle.promise.proofs.Known.{Known, refused_done, listener_at}
 use Rattle.promise.proofs.Changed.{unchanged}
 use Rattle.promise.proofs.Held.{ring_long, inbox-in}
-use Rattle.promise.proofs.Live.{Live, live, opened, not-closed, state-seen, stale-run, live-run}
+use Rattle.promise.proofs.Live.{Live, live, opened, not_closed, state_seen, stale_run, live_run}
 use Rattle.readying.specs.Parts.{readable_of, room_in, writable_in, ready_in}
 
 -- ── The parts ──
@@ -47,133 +47,133 @@ module _ (k : Connection) (q : ℕ) (eq : q ≡ count k.inbox) where
   unfolding readable_of
   some_bytes ne = rw (ne_eqb (count k.inbox) 0 (λ z. ne (eq ∙ z)))
 
-  pub shut-inbox : q ≡ 0 → k.inbox_closed ≡ true → 1 ≡ readable_of k
+  pub shut_inbox : q ≡ 0 → k.inbox_closed ≡ true → 1 ≡ readable_of k
   unfolding readable_of
-  shut-inbox z e = rw (eq-eqb (count k.inbox) 0 (sym eq ∙ z), e)
+  shut_inbox z e = rw (eq-eqb (count k.inbox) 0 (sym eq ∙ z), e)
 
   pub no_bytes : q ≡ 0 → k.inbox_closed ≡ false → 0 ≡ readable_of k
   unfolding readable_of
   no_bytes z e = rw (eq-eqb (count k.inbox) 0 (sym eq ∙ z), e)
 
-  pub room-is : (c : ℕ) (σ : State) → σ ≡ Connected k → ltb q c ≡ room_in c σ
-  room-is c σ e = rw (e, eq)
+  pub room_is : (c : ℕ) (σ : State) → σ ≡ Connected k → ltb q c ≡ room_in c σ
+  room_is c σ e = rw (e, eq)
 
 module _ (c : ℕ) (w : List ℕ) (j : ℕ) (k : Connection) where
-  pub shut-outbox : k.outbox_closed ≡ true → 0 ≡ writable_in c w j k
+  pub shut_outbox : k.outbox_closed ≡ true → 0 ≡ writable_in c w j k
   unfolding writable_in
-  shut-outbox e = rw e
+  shut_outbox e = rw e
 
   module _ (s : Slot) (b : Bool) (e : k.outbox_closed ≡ false) (es : s ≡ loaded_at w j) (eb : b ≡ room_in c s.state) where
     room_at : room_in c (state_of (cell_at w j)) ≡ b
     room_at = sym (eb ∙ ap (λ (x : Slot). room_in c x.state) es)
 
-    pub some-room : b ≡ true → 2 ≡ writable_in c w j k
+    pub some_room : b ≡ true → 2 ≡ writable_in c w j k
     unfolding writable_in
-    some-room t = rw (e, room_at ∙ t)
+    some_room t = rw (e, room_at ∙ t)
 
     pub no_room : b ≡ false → 0 ≡ writable_in c w j k
     unfolding writable_in
     no_room t = rw (e, room_at ∙ t)
 
 module _ (n c : ℕ) (w : List ℕ) (k : Connection) (r : Bool) (er : r ≡ open_in n w k.peer.0) where
-  pub peer-gone : not r ≡ true → 5 ≡ ready_in n c w k
+  pub peer_gone : not r ≡ true → 5 ≡ ready_in n c w k
   unfolding ready_in
-  peer-gone t = rw (sym er ∙ not-true r t)
+  peer_gone t = rw (sym er ∙ not-true r t)
 
-  pub peer-in : not r ≡ false → 8 + 16 * n ≤ length w → (j : ℕ) → j ≡ slot_of k.peer.0 → 8 + 16 * j + 16 ≤ length w
-  peer-in t l j ej = let z = open-slot n w k.peer.0 (sym er ∙ not-false r t) in omega arith
+  pub peer_in : not r ≡ false → 8 + 16 * n ≤ length w → (j : ℕ) → j ≡ slot_of k.peer.0 → 8 + 16 * j + 16 ≤ length w
+  peer_in t l j ej = let z = open_slot n w k.peer.0 (sym er ∙ not-false r t) in omega arith
 
   pub both_ends : not r ≡ false → (j a b : ℕ) → j ≡ slot_of k.peer.0 → a ≡ readable_of k → b ≡ writable_in c w j k → a + b ≡ ready_in n c w k
   unfolding ready_in
   both_ends t j a b ej ea eb = rw (sym er ∙ not-false r t, ea, eb, ej)
 
-bit-one : (b : Bool) → ◌≤◌ (cond b 1 0) 1
-bit-one true = omega arith
-bit-one false = omega arith
+bit_one : (b : Bool) → ◌≤◌ (cond b 1 0) 1
+bit_one true = omega arith
+bit_one false = omega arith
 
-bit-two : (b : Bool) → ◌≤◌ (cond b 2 0) 2
-bit-two true = omega arith
-bit-two false = omega arith
+bit_two : (b : Bool) → ◌≤◌ (cond b 2 0) 2
+bit_two true = omega arith
+bit_two false = omega arith
 
 pub sum_fits : (c : ℕ) (w : List ℕ) (j : ℕ) (k : Connection) (a b : ℕ) → a ≡ readable_of k → b ≡ writable_in c w j k → a + b < 2 ^ 64
 unfolding readable_of writable_in
 sum_fits c w j k a b ea eb =
-    let x = bit-one (not (eqb (count k.inbox) 0) || k.inbox_closed) in
-    let y = bit-two (not k.outbox_closed && room_in c (state_of (cell_at w j))) in
+    let x = bit_one (not (eqb (count k.inbox) 0) || k.inbox_closed) in
+    let y = bit_two (not k.outbox_closed && room_in c (state_of (cell_at w j))) in
     omega arith
 
 -- ── The answer ──
 
 -- the length of what is queued
-pub bytes-long : (n c : ℕ) (s : Store) (i : ℕ) (k : Connection) → Known n c s → i < n → state_of (cell_at s.words i) ≡ Connected k → length (inbox.bytes_of (row_at n c s i).ring k.inbox) ≡ count k.inbox
-bytes-long n c s i k kn hi e =
+pub bytes_long : (n c : ℕ) (s : Store) (i : ℕ) (k : Connection) → Known n c s → i < n → state_of (cell_at s.words i) ≡ Connected k → length (inbox.bytes_of (row_at n c s i).ring k.inbox) ≡ count k.inbox
+bytes_long n c s i k kn hi e =
     let r = inbox-in kn hi e in
     let lr = ring_long n c s kn.roomy i hi in
     length-bytes (row_at n c s i).ring k.inbox (let x = r.head_in in omega arith) (let x = r.fits in omega arith)
 
 -- "the peer inbox has room"
 module _ (n c : ℕ) (s : Store) (kn : Known n c s) (j : ℕ) (hj : j < n) where
-  room-same : (σ : State) → state_of (cell_at s.words j) ≡ σ → room_in c σ ≡ ending.has_room (view n c s) (show_in (row_at n c s j) (cell_at s.words j).generation σ).state
+  room_same : (σ : State) → state_of (cell_at s.words j) ≡ σ → room_in c σ ≡ ending.has_room (view n c s) (show_in (row_at n c s j) (cell_at s.words j).generation σ).state
   unfolding ending.has_room show_in view
-  room-same Closed e = refl
-  room-same Unbound e = refl
-  room-same (Bound m) e = refl
-  room-same (Listening l) e = refl
-  room-same (Connected k) e = ap (λ (x : ℕ). ltb x c) (sym (bytes-long n c s j k kn hj e))
+  room_same Closed e = refl
+  room_same Unbound e = refl
+  room_same (Bound m) e = refl
+  room_same (Listening l) e = refl
+  room_same (Connected k) e = ap (λ (x : ℕ). ltb x c) (sym (bytes_long n c s j k kn hj e))
 
 module _ (n c : ℕ) (s : Store) (l : Lists) (h : ℕ) (b : Bool) (eb : b ≡ live_in n s.words h) (r : Answer) where
   pub stale : not b ≡ true → r ≡ refused_with 1 → Done (run (view n c s) (Call.Readiness h)) n c s s l l r
   unfolding run
-  stale t er = refused-done _ 1 n c s l r (stale-run n c s h b _ eb t) (λ z. omega arith) er
+  stale t er = refused_done _ 1 n c s l r (stale_run n c s h b _ eb t) (λ z. omega arith) er
 
   module _ (a : Known n c s) (t : not b ≡ false) (j : ℕ) (ej : j ≡ slot_of h) (sl : Slot) (es : sl ≡ loaded_at s.words j) where
     lv : Live n c s h
     lv = live n c s h b eb t
 
     is_state : (σ : State) → sl.state ≡ σ → state_of (cell_at s.words (slot_of h)) ≡ σ
-    is_state σ e = sym (loaded-state s.words ej es) ∙ e
+    is_state σ e = sym (loaded_state s.words ej es) ∙ e
 
-    state-is : (σ : State) → sl.state ≡ σ → model.state_of (view n c s) h ≡ (show_in (row_at n c s (slot_of h)) (cell_at s.words (slot_of h)).generation σ).state
-    state-is σ e = state-seen n c s h σ lv.within (is_state σ e)
+    state_is : (σ : State) → sl.state ≡ σ → model.state_of (view n c s) h ≡ (show_in (row_at n c s (slot_of h)) (cell_at s.words (slot_of h)).generation σ).state
+    state_is σ e = state_seen n c s h σ lv.within (is_state σ e)
 
     with_value : (v : ℕ) → ending.ready (view n c s) (model.state_of (view n c s) h) ≡ v → r ≡ accepted_with v 0 → Done (run (view n c s) (Call.Readiness h)) n c s s l l r
     unfolding run
     with_value v e er =
-        unchanged n c s (Call.Readiness h) v l r a (live-run n c s h (answer (view n c s) (ending.ready (view n c s) (model.state_of (view n c s) h)) [] []) lv ∙ ap (λ (x : ℕ). answer (view n c s) x [] []) e) er
+        unchanged n c s (Call.Readiness h) v l r a (live_run n c s h (answer (view n c s) (ending.ready (view n c s) (model.state_of (view n c s) h)) [] []) lv ∙ ap (λ (x : ℕ). answer (view n c s) x [] []) e) er
 
-    pub closed-never : sl.state ≡ Closed → r ≡ refused_with 19 → Done (run (view n c s) (Call.Readiness h)) n c s s l l r
-    closed-never e er = not-closed n c s h lv (is_state Closed e)
+    pub closed_never : sl.state ≡ Closed → r ≡ refused_with 19 → Done (run (view n c s) (Call.Readiness h)) n c s s l l r
+    closed_never e er = not_closed n c s h lv (is_state Closed e)
 
-    pub of-unbound : sl.state ≡ Unbound → r ≡ accepted_with 0 0 → Done (run (view n c s) (Call.Readiness h)) n c s s l l r
+    pub of_unbound : sl.state ≡ Unbound → r ≡ accepted_with 0 0 → Done (run (view n c s) (Call.Readiness h)) n c s s l l r
     unfolding ending.ready show_in
-    of-unbound e er = with_value 0 (ap (ending.ready (view n c s)) (state-is Unbound e)) er
+    of_unbound e er = with_value 0 (ap (ending.ready (view n c s)) (state_is Unbound e)) er
 
-    pub of-bound : (m : ℕ) → sl.state ≡ Bound m → r ≡ accepted_with 0 0 → Done (run (view n c s) (Call.Readiness h)) n c s s l l r
+    pub of_bound : (m : ℕ) → sl.state ≡ Bound m → r ≡ accepted_with 0 0 → Done (run (view n c s) (Call.Readiness h)) n c s s l l r
     unfolding ending.ready show_in
-    of-bound m e er = with_value 0 (ap (ending.ready (view n c s)) (state-is (Bound m) e)) er
+    of_bound m e er = with_value 0 (ap (ending.ready (view n c s)) (state_is (Bound m) e)) er
 
     module _ (q : Listener) (e : sl.state ≡ Listening q) where
       nil_is : is_nil (queued (row_at n c s (slot_of h)).queue q.head q.pending) ≡ eqb q.pending 0
       unfolding row_at
       nil_is =
-          let z = listener-at a lv.within (is_state (Listening q) e) in
+          let z = listener_at a lv.within (is_state (Listening q) e) in
           none_at_all _ ∙ ap (λ (x : ℕ). eqb x 0) (queue-length n c s a.roomy (slot_of h) q lv.within z.2 z.3)
 
-      pub of-empty : q.pending ≡ 0 → r ≡ accepted_with 0 0 → Done (run (view n c s) (Call.Readiness h)) n c s s l l r
+      pub of_empty : q.pending ≡ 0 → r ≡ accepted_with 0 0 → Done (run (view n c s) (Call.Readiness h)) n c s s l l r
       unfolding ending.ready show_in
-      of-empty z er = with_value 0 (ap (ending.ready (view n c s)) (state-is (Listening q) e) ∙ rw (nil_is ∙ eq-eqb q.pending 0 z)) er
+      of_empty z er = with_value 0 (ap (ending.ready (view n c s)) (state_is (Listening q) e) ∙ rw (nil_is ∙ eq-eqb q.pending 0 z)) er
 
-      pub of-waiting : (q.pending ≡ 0 → ⊥) → r ≡ accepted_with 1 0 → Done (run (view n c s) (Call.Readiness h)) n c s s l l r
+      pub of_waiting : (q.pending ≡ 0 → ⊥) → r ≡ accepted_with 1 0 → Done (run (view n c s) (Call.Readiness h)) n c s s l l r
       unfolding ending.ready show_in
-      of-waiting z er = with_value 1 (ap (ending.ready (view n c s)) (state-is (Listening q) e) ∙ rw (nil_is ∙ ne_eqb q.pending 0 z)) er
+      of_waiting z er = with_value 1 (ap (ending.ready (view n c s)) (state_is (Listening q) e) ∙ rw (nil_is ∙ ne_eqb q.pending 0 z)) er
 
-    ready-is : (k : Connection) → state_of (cell_at s.words (slot_of h)) ≡ Connected k
+    ready_is : (k : Connection) → state_of (cell_at s.words (slot_of h)) ≡ Connected k
         → ending.ready (view n c s) (show_in (row_at n c s (slot_of h)) (cell_at s.words (slot_of h)).generation (Connected k)).state ≡ ready_in n c s.words k
     unfolding ending.ready show_in ready_in readable_of writable_in
-    ready-is k e = go (is_open (view n c s) k.peer.0) refl
+    ready_is k e = go (is_open (view n c s) k.peer.0) refl
       where
         nil : is_nil (inbox.bytes_of (row_at n c s (slot_of h)).ring k.inbox) ≡ eqb (count k.inbox) 0
-        nil = none_at_all _ ∙ ap (λ (x : ℕ). eqb x 0) (bytes-long n c s (slot_of h) k a lv.within e)
+        nil = none_at_all _ ∙ ap (λ (x : ℕ). eqb x 0) (bytes_long n c s (slot_of h) k a lv.within e)
 
         go : (o : Bool) → is_open (view n c s) k.peer.0 ≡ o
             → cond (is_open (view n c s) k.peer.0)
@@ -182,11 +182,11 @@ module _ (n c : ℕ) (s : Store) (l : Lists) (h : ℕ) (b : Bool) (eb : b ≡ li
         go true eo =
             let op = opened n c s k.peer.0 eo in
             let room : room_in c (state_of (cell_at s.words (slot_of k.peer.0))) ≡ ending.has_room (view n c s) (model.state_of (view n c s) k.peer.0) =
-            room-same n c s a (slot_of k.peer.0) op.within (state_of (cell_at s.words (slot_of k.peer.0))) refl
-            ∙ ap (ending.has_room (view n c s)) (sym (state-seen n c s k.peer.0 (state_of (cell_at s.words (slot_of k.peer.0))) op.within refl)) in
-            rw (eo, open-view n c s k.peer.0 ∙ eo, nil, room)
-        go false eo = rw (eo, open-view n c s k.peer.0 ∙ eo)
+            room_same n c s a (slot_of k.peer.0) op.within (state_of (cell_at s.words (slot_of k.peer.0))) refl
+            ∙ ap (ending.has_room (view n c s)) (sym (state_seen n c s k.peer.0 (state_of (cell_at s.words (slot_of k.peer.0))) op.within refl)) in
+            rw (eo, open_view n c s k.peer.0 ∙ eo, nil, room)
+        go false eo = rw (eo, open_view n c s k.peer.0 ∙ eo)
 
-    pub of-connected : (k : Connection) (v : ℕ) → sl.state ≡ Connected k → v ≡ ready_in n c s.words k → r ≡ accepted_with v 0 → Done (run (view n c s) (Call.Readiness h)) n c s s l l r
-    of-connected k v e ev er =
-        with_value v (ap (ending.ready (view n c s)) (state-is (Connected k) e) ∙ ready-is k (is_state (Connected k) e) ∙ sym ev) er
+    pub of_connected : (k : Connection) (v : ℕ) → sl.state ≡ Connected k → v ≡ ready_in n c s.words k → r ≡ accepted_with v 0 → Done (run (view n c s) (Call.Readiness h)) n c s s l l r
+    of_connected k v e ev er =
+        with_value v (ap (ending.ready (view n c s)) (state_is (Connected k) e) ∙ ready_is k (is_state (Connected k) e) ∙ sym ev) er

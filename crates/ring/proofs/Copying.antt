@@ -9,18 +9,18 @@ use borrow.Author.Tests.{lt-ltb, le-ltb}
 use lib.ListN.{length, take, drop, get_or, set, replicate, length-take, length-drop, length-replicate, get_or-replicate}
 use lib.Seq.{paste, paste-suc, take-paste, drop-paste, take_all, take-take, take-append-le, take-append-add, drop-drop, ext_get_or, get_or-drop}
 use Rattle.ring.specs.Ring.{place_of, queued, whole}
-use Rattle.ring.proofs.Queued.{Place, by_order, place_in, queued-at}
-use Rattle.ring.proofs.Runs.{one-run, two_runs}
+use Rattle.ring.proofs.Queued.{Place, by_order, place_in, queued_at}
+use Rattle.ring.proofs.Runs.{one_run, two_runs}
 
 -- ── Places ──
 
-pub place-low : (c k : ℕ) → k < c → (k ≡ place_of c k) × (k < c)
+pub place_low : (c k : ℕ) → k < c → (k ≡ place_of c k) × (k < c)
 unfolding place_of
-place-low c k h = (rw (lt-ltb k c h), h)
+place_low c k h = (rw (lt-ltb k c h), h)
 
-pub place-high : (c k : ℕ) → c ≤ k → k < c + c → (k - c ≡ place_of c k) × (k - c < c)
+pub place_high : (c k : ℕ) → c ≤ k → k < c + c → (k - c ≡ place_of c k) × (k - c < c)
 unfolding place_of
-place-high c k h l = (rw (le-ltb k c h), omega arith)
+place_high c k h l = (rw (le-ltb k c h), omega arith)
 
 pub place_is : (c k p : ℕ) → p ≡ place_of c k → Place c k p
 unfolding place_of
@@ -49,7 +49,7 @@ pub in_one : (r r' s : List ℕ) (h n k p : ℕ) → p ≡ place_of (length r) (
     → r' ≡ paste r p (drop 0 s) k → whole r' h ≡ paste (whole r h) n s k
 in_one r r' s h n k p ep hh hn hs hk e =
     let pl = place_is (length r) (h + n) p ep in
-    ap (λ (x : List ℕ). whole x h) e ∙ one-run r s h n k p hh hn hs pl (omega (arith, place_in pl (omega arith)))
+    ap (λ (x : List ℕ). whole x h) e ∙ one_run r s h n k p hh hn hs pl (omega (arith, place_in pl (omega arith)))
 
 -- a of them to its end, and the others from its start
 pub in_two : (r r' r'' s : List ℕ) (h n k p a : ℕ) → p ≡ place_of (length r) (h + n) → h < length r → n + k ≤ length r → k ≤ length s → a ≡ length r - p → a < k
@@ -73,9 +73,9 @@ pub fill_one : (r r' : List ℕ) (h n k p v : ℕ) → p ≡ place_of (length r)
     → r' ≡ paste r p (replicate k v) k → whole r' h ≡ paste (whole r h) n (replicate k v) k
 fill_one r r' h n k p v ep hh hn hk e = in_one r r' (replicate k v) h n k p ep hh hn (omega (arith, length-replicate k v)) hk e
 
-pub fill-two : (r r' r'' : List ℕ) (h n k p a v : ℕ) → p ≡ place_of (length r) (h + n) → h < length r → n + k ≤ length r → a ≡ length r - p → a < k
+pub fill_two : (r r' r'' : List ℕ) (h n k p a v : ℕ) → p ≡ place_of (length r) (h + n) → h < length r → n + k ≤ length r → a ≡ length r - p → a < k
     → r' ≡ paste r p (replicate a v) a → r'' ≡ paste r' 0 (replicate (k - a) v) (k - a) → whole r'' h ≡ paste (whole r h) n (replicate k v) k
-fill-two r r' r'' h n k p a v ep hh hn ea ha e e' =
+fill_two r r' r'' h n k p a v ep hh hn ea ha e e' =
     let same : paste r p (replicate a v) a ≡ paste r p (replicate k v) a =
     ap (λ (x : List ℕ). take p r ++ x ++ drop (p + a) r) (take-replicate a a v (omega arith) ∙ sym (take-replicate a k v (omega arith))) in
     in_two r r' r'' (replicate k v) h n k p a ep hh hn (omega (arith, length-replicate k v)) ea ha (e ∙ same)
@@ -91,10 +91,10 @@ out_one r b b' h at k hh hk e =
     e ∙ ap (λ (x : List ℕ). take at b ++ x ++ drop (at + k) b) (sym (ap (take k) (take-append-le k (drop h r) r l) ∙ take-take k k (drop h r) (omega arith)))
 
 -- a of them to its end, and the others from its start
-pub out-two : (r b b' b'' : List ℕ) (h at k a : ℕ) → h < length r → a ≡ length r - h → a < k → k ≤ length r → at + k ≤ length b
+pub out_two : (r b b' b'' : List ℕ) (h at k a : ℕ) → h < length r → a ≡ length r - h → a < k → k ≤ length r → at + k ≤ length b
     → b' ≡ paste b at (drop h r) a → b'' ≡ paste b' (at + a) (drop 0 r) (k - a) → b'' ≡ paste b at (queued r h k) k
 unfolding queued
-out-two r b b' b'' h at k a hh ea ha hk hb e e' =
+out_two r b b' b'' h at k a hh ea ha hk hb e e' =
     let n : length (drop h r) ≡ a = length-drop h r ∙ sym ea in
     let all : take a (drop h r) ≡ drop h r = take_all a (drop h r) (omega arith) in
     let q : take k (drop h r ++ r) ≡ drop h r ++ take (k - a) r =
@@ -122,6 +122,6 @@ pub turned : (r r' : List ℕ) (h : ℕ) → h < length r → length r' ≡ leng
 turned r r' h hh l e =
     ext_get_or 0 r r' (sym l) λ p hp.
     let q = reached (length r) h p hh hp in
-    sym (queued-at r h hh (length r) q.0 p q.1 (omega arith) q.2)
+    sym (queued_at r h hh (length r) q.0 p q.1 (omega arith) q.2)
     ∙ ap (λ (x : List ℕ). get_or x q.0 0) e
-    ∙ queued-at r' h (omega arith) (length r') q.0 p (let z = q.1 in omega arith) (omega arith) (rw l q.2)
+    ∙ queued_at r' h (omega arith) (length r') q.0 p (let z = q.1 in omega arith) (omega arith) (rw l q.2)

@@ -23,15 +23,15 @@ pub place_in : {c k p : ℕ} → Place c k p → k < c + c → p < c
 place_in {c} {k} {p} pl h = by_order k c (λ lo. omega (arith, pl.low lo)) (λ hi. omega (arith, pl.high hi))
 
 -- two places less than a round apart are not the same
-pub place-apart : {c j k p q : ℕ} → Place c j p → Place c k q → j < k → k < j + c → p ≢ q
-place-apart {c} {j} {k} {p} {q} pl ql h g e =
+pub place_apart : {c j k p q : ℕ} → Place c j p → Place c k q → j < k → k < j + c → p ≢ q
+place_apart {c} {j} {k} {p} {q} pl ql h g e =
     by_order j c
     (λ jl. by_order k c (λ kl. omega (arith, pl.low jl, ql.low kl)) (λ kh. omega (arith, pl.low jl, ql.high kh)))
     (λ jh. omega (arith, pl.high jh, ql.high (omega arith)))
 
 -- the place i after the place of h + k is that of h + (k + i)
-pub place-further : (c h k i : ℕ) {p q : ℕ} → h < c → k + i < c → Place c (h + k) p → Place c (h + (k + i)) q → Place c (p + i) q
-place-further c h k i {p} {q} hh hk pl ql =
+pub place_further : (c h k i : ℕ) {p q : ℕ} → h < c → k + i < c → Place c (h + k) p → Place c (h + (k + i)) q → Place c (p + i) q
+place_further c h k i {p} {q} hh hk pl ql =
     by_order (h + k) c
     (λ lo.
     let e : p ≡ h + k = pl.low lo in
@@ -54,9 +54,9 @@ module _ (r : List ℕ) (h : ℕ) (hh : h < length r) where
   queued-length n hn = length-take-le n (drop h r ++ r) (simp (length-append, length-drop) (omega arith))
 
   -- what stands at i stands in the ring at the place of h + i
-  pub queued-at : (n i p : ℕ) → i < n → n ≤ length r → Place (length r) (h + i) p → get_or (queued r h n) i 0 ≡ get_or r p 0
+  pub queued_at : (n i p : ℕ) → i < n → n ≤ length r → Place (length r) (h + i) p → get_or (queued r h n) i 0 ≡ get_or r p 0
   unfolding queued
-  queued-at n i p hi hn pl =
+  queued_at n i p hi hn pl =
       get_or-take n (drop h r ++ r) i 0 hi
       ∙ by_order (h + i) (length r)
       (λ lo. get_or-append (drop h r) r 0 i (simp length-drop (omega arith)) ∙ get_or-drop h r i 0 ∙ ap (λ (k : ℕ). get_or r k 0) (sym (pl.low lo)))
@@ -77,16 +77,16 @@ module _ (r : List ℕ) (h i p v : ℕ) (hh : h < length r) (hi : i < length r) 
   at_other : (j : ℕ) → j < length r → j ≢ i → get_or (queued (set r p v) h (length r)) j 0 ≡ get_or (queued r h (length r)) j 0
   at_other j hj ne =
       let q : (q : ℕ) × Place (length r) (h + j) q = placed (length r) (h + j) (omega arith) in
-      queued-at (set r p v) h (omega (arith, set-length)) (length r) j q.0 hj (omega (arith, set-length)) (rw set-length q.1)
+      queued_at (set r p v) h (omega (arith, set-length)) (length r) j q.0 hj (omega (arith, set-length)) (rw set-length q.1)
       ∙ get_or-set_other r p q.0 v 0
       (by_order j i
-      (λ lo. place-apart q.1 pl (omega arith) (omega arith))
-      (λ up e. place-apart pl q.1 (omega arith) (omega arith) (sym e)))
-      ∙ sym (queued-at r h hh (length r) j q.0 hj (omega arith) q.1)
+      (λ lo. place_apart q.1 pl (omega arith) (omega arith))
+      (λ up e. place_apart pl q.1 (omega arith) (omega arith) (sym e)))
+      ∙ sym (queued_at r h hh (length r) j q.0 hj (omega arith) q.1)
 
   at_same : get_or (queued (set r p v) h (length r)) i 0 ≡ v
   at_same =
-      queued-at (set r p v) h (omega (arith, set-length)) (length r) i p hi (omega (arith, set-length)) (rw set-length pl)
+      queued_at (set r p v) h (omega (arith, set-length)) (length r) i p hi (omega (arith, set-length)) (rw set-length pl)
       ∙ get_or-set_same r p v 0 (place_in pl (omega arith))
 
   pub whole_set : queued (set r p v) h (length r) ≡ set (whole r h) i v
@@ -111,8 +111,8 @@ queued-drop r h k n p hh hk hn pl =
     let li : i < n - k = omega (arith, length-drop k (queued r h n)) in
     let q : (q : ℕ) × Place (length r) (h + (k + i)) q = placed (length r) (h + (k + i)) (omega arith) in
     get_or-drop k (queued r h n) i 0
-    ∙ queued-at r h hh n (k + i) q.0 (omega arith) hn q.1
-    ∙ sym (queued-at r p hp (n - k) i q.0 li (omega arith) (place-further (length r) h k i hh (omega arith) pl q.1)))
+    ∙ queued_at r h hh n (k + i) q.0 (omega arith) hn q.1
+    ∙ sym (queued_at r p hp (n - k) i q.0 li (omega arith) (place_further (length r) h k i hh (omega arith) pl q.1)))
 
 -- what is queued in a ring of c into which k were copied behind n
 pub pasted : (r r' s : List ℕ) (h n k : ℕ) → length r' ≡ length r → h < length r → n + k ≤ length r → k ≤ length s

@@ -6,7 +6,7 @@ use native.Mathlib.Omega.{arith}
 use lib.ListN.{length, take, drop, get_or, length-drop, get_or-append}
 use lib.Seq.{paste, length-paste, length_paste_head, length-take-le, ext_get_or, get_or-take, get_or-drop, get_or-append-add}
 use Rattle.ring.specs.Ring.{whole}
-use Rattle.ring.proofs.Queued.{Place, by_order, placed, queued-length, queued-at}
+use Rattle.ring.proofs.Queued.{Place, by_order, placed, queued-length, queued_at}
 
 -- what stands at j after a copy
 module _ (d : List ℕ) (at : ℕ) (s : List ℕ) (n : ℕ) (hd : at + n ≤ length d) (hs : n ≤ length s) (j : ℕ) where
@@ -62,8 +62,8 @@ module _ (r s : List ℕ) (h n k p : ℕ) (hh : h < length r) (hn : n + k ≤ le
 
       at_place : (i q : ℕ) → i < length r → Place (length r) (h + i) q → get_or (whole r' h) i 0 ≡ get_or (paste (whole r h) n s k) i 0
       at_place i q hi ql =
-          let e : get_or (whole r' h) i 0 ≡ get_or r' q 0 = queued-at r' h (omega arith) (length r') i q (omega arith) (omega arith) (rw l ql) in
-          let f : get_or (whole r h) i 0 ≡ get_or r q 0 = queued-at r h hh (length r) i q (omega arith) (omega arith) ql in
+          let e : get_or (whole r' h) i 0 ≡ get_or r' q 0 = queued_at r' h (omega arith) (length r') i q (omega arith) (omega arith) (rw l ql) in
+          let f : get_or (whole r h) i 0 ≡ get_or r q 0 = queued_at r h hh (length r) i q (omega arith) (omega arith) ql in
           by_order i n
           (λ lo. e ∙ old i q lo ql ∙ sym (paste-before (whole r h) n s k hd hs i lo ∙ f))
           (λ up.
@@ -73,8 +73,8 @@ module _ (r s : List ℕ) (h n k p : ℕ) (hh : h < length r) (hn : n + k ≤ le
           e ∙ new (i - n) q (omega arith) (rw d ql) ∙ sym (paste-in (whole r h) n s k hd hs i (i - n) (sym d) (omega arith)))
           (λ out. e ∙ rest i q out hi ql ∙ sym (paste-behind (whole r h) n s k hd hs i out ∙ f)))
 
-      ring-is : whole r' h ≡ paste (whole r h) n s k
-      ring-is =
+      ring_is : whole r' h ≡ paste (whole r h) n s k
+      ring_is =
           ext_get_or 0 (whole r' h) (paste (whole r h) n s k) (m' ∙ l ∙ sym (length-paste (whole r h) n s k hd hs ∙ m))
           (λ i hi.
           let hi' : i < length r = omega (arith, m') in
@@ -82,9 +82,9 @@ module _ (r s : List ℕ) (h n k p : ℕ) (hh : h < length r) (hn : n + k ≤ le
           at_place i q.0 hi' q.1)
 
   -- one run, which ends in the ring
-  pub one-run : p + k ≤ length r → whole (paste r p s k) h ≡ paste (whole r h) n s k
-  one-run hp =
-      ring-is (paste r p s k) (length-paste r p s k hp hs)
+  pub one_run : p + k ≤ length r → whole (paste r p s k) h ≡ paste (whole r h) n s k
+  one_run hp =
+      ring_is (paste r p s k) (length-paste r p s k hp hs)
       (λ i q hi ql.
       by_order q p
       (λ lo. paste-before r p s k hp hs q lo)
@@ -137,7 +137,7 @@ module _ (r s : List ℕ) (h n k p : ℕ) (hh : h < length r) (hn : n + k ≤ le
     pub two_runs : whole (paste (paste r p s a) 0 (drop a s) (k - a)) h ≡ paste (whole r h) n s k
     unfolding r2 r1
     two_runs =
-        ring-is r2 (length-paste r1 0 (drop a s) (k - a) f2 s2 ∙ l1)
+        ring_is r2 (length-paste r1 0 (drop a s) (k - a) f2 s2 ∙ l1)
         (λ i q hi ql.
         old2 q
         (by_place pl (λ x u. by_place ql (λ y v. omega arith) (λ y v. omega arith)) (λ x u. omega arith))

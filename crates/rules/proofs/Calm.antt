@@ -8,7 +8,7 @@ use mathlib.Core.List.{List, [], ◌∷◌, Memᴰ}
 use lib.ListN.{length}
 use Rattle.laws.proofs.Tests.{cond_both}
 use Rattle.rules.proofs.Model.{Table, State, Inbox, at, is_open, state_of, become, give, enter, leave, is_nil, same, close_wakes, open_one, close_all}
-use Rattle.rules.proofs.Frame.{open-become, open-give, state-become, state-give, open-same, at-leave, enter-open}
+use Rattle.rules.proofs.Frame.{open_become, open_give, state_become, state_give, open_same, at_leave, enter_open}
 
 -- what one socket's state may show to a sleeper
 pub data End : Type 0 where
@@ -78,23 +78,23 @@ pub record Calm (c : ℕ) (t : Table) (w : List ℕ) (u : Table) : Type 0 where
 pub record Fewer (t u : Table) : Type 0 where
   pub shut : (g : ℕ) → is_open t g ≡ false → is_open u g ≡ false
 
-pub calm-refl : {c : ℕ} {t : Table} {w : List ℕ} → Calm c t w t
-calm-refl = record { capacity = refl; says = λ k g s. inl s }
+pub calm_refl : {c : ℕ} {t : Table} {w : List ℕ} → Calm c t w t
+calm_refl = record { capacity = refl; says = λ k g s. inl s }
 
-gone-fewer : {t u : Table} (k : Look) (g : ℕ) → Fewer t u → Gone k t g → Gone k u g
-gone-fewer idle g f o = f.shut g o
-gone-fewer (crowded n) g f o = o
-gone-fewer (peered p e) g f o = f.shut g o
+gone_fewer : {t u : Table} (k : Look) (g : ℕ) → Fewer t u → Gone k t g → Gone k u g
+gone_fewer idle g f o = f.shut g o
+gone_fewer (crowded n) g f o = o
+gone_fewer (peered p e) g f o = f.shut g o
 
-pub told-fewer : {t u : Table} {w : List ℕ} (k : Look) (g : ℕ) → Fewer t u → Told t w k g → Told u w k g
-told-fewer k g f (inl m) = inl m
-told-fewer k g f (inr o) = inr (gone-fewer k (key k g) f o)
+pub told_fewer : {t u : Table} {w : List ℕ} (k : Look) (g : ℕ) → Fewer t u → Told t w k g → Told u w k g
+told_fewer k g f (inl m) = inl m
+told_fewer k g f (inr o) = inr (gone_fewer k (key k g) f o)
 
-pub calm-then : {c : ℕ} {t u v : Table} {w : List ℕ} → Calm c t w u → Calm c u w v → Fewer u v → Calm c t w v
-calm-then a b f =
+pub calm_then : {c : ℕ} {t u v : Table} {w : List ℕ} → Calm c t w u → Calm c u w v → Fewer u v → Calm c t w v
+calm_then a b f =
     record {
       capacity = b.capacity ∙ a.capacity;
-      says = λ k g s. ⊎_elim (λ s'. b.says k g s') (λ m. inr (told-fewer k g f m)) (a.says k g s);
+      says = λ k g s. ⊎_elim (λ s'. b.says k g s') (λ m. inr (told_fewer k g f m)) (a.says k g s);
     }
 
 pub calm_more : {c : ℕ} {t u : Table} {w w' : List ℕ} → ((x : ℕ) → Memᴰ x w → Memᴰ x w') → Calm c t w u → Calm c t w' u
@@ -102,94 +102,94 @@ calm_more f a = record { capacity = a.capacity; says = λ k g s. ⊎_elim (λ s'
 
 -- ── the four changes of a table ──
 
-pub fewer-become : (t : Table) (h : ℕ) (σ : State) → Fewer t (become t h σ)
-fewer-become t h σ = record { shut = λ g o. open-become t h σ g ∙ o }
+pub fewer_become : (t : Table) (h : ℕ) (σ : State) → Fewer t (become t h σ)
+fewer_become t h σ = record { shut = λ g o. open_become t h σ g ∙ o }
 
 -- a socket changes its state: each look of the old state is in the new one, or told
 pub record Turn (c : ℕ) (t : Table) (w : List ℕ) (h : ℕ) (σ σ' : State) : Type 0 where
   pub turns : (k : Look) → Fact c k σ → Fact c k σ' ⊎ Told t w k h
 
-pub calm-become : {c : ℕ} {w : List ℕ} {σ : State} (t : Table) (h : ℕ) (σ' : State) → is_open t h ≡ true → state_of t h ≡ σ → Turn c t w h σ σ' → Calm c t w (become t h σ')
+pub calm_become : {c : ℕ} {w : List ℕ} {σ : State} (t : Table) (h : ℕ) (σ' : State) → is_open t h ≡ true → state_of t h ≡ σ → Turn c t w h σ σ' → Calm c t w (become t h σ')
 unfolding become
-calm-become {c} {w} t h σ' o is turn =
+calm_become {c} {w} t h σ' o is turn =
     record {
       capacity = refl;
       says = λ k g s.
           ⊎_elim
-          (λ e. let gh = open-same t g h s.0 o e.0 in
+          (λ e. let gh = open_same t g h s.0 o e.0 in
           ⊎_elim
-          (λ f. inl (open-become t h σ' g ∙ s.0, subst (Fact c k) (sym e.1) f))
-          (λ m. inr (told-fewer k g (fewer-become t h σ') (subst (Told t w k) (sym gh) m)))
+          (λ f. inl (open_become t h σ' g ∙ s.0, subst (Fact c k) (sym e.1) f))
+          (λ m. inr (told_fewer k g (fewer_become t h σ') (subst (Told t w k) (sym gh) m)))
           (turn.turns k (subst (Fact c k) (ap (state_of t) gh ∙ is) s.1)))
-          (λ e. inl (open-become t h σ' g ∙ s.0, subst (Fact c k) (sym e) s.1))
-          (state-become t h σ' g);
+          (λ e. inl (open_become t h σ' g ∙ s.0, subst (Fact c k) (sym e) s.1))
+          (state_become t h σ' g);
     }
 
-pub calm-give : {c : ℕ} {w : List ℕ} (t : Table) (h : ℕ) → Calm c t w (give t h)
+pub calm_give : {c : ℕ} {w : List ℕ} (t : Table) (h : ℕ) → Calm c t w (give t h)
 unfolding give
-calm-give {c} {w} t h = record { capacity = refl; says = λ k g s. inl (open-give t h g ∙ s.0, subst (Fact c k) (sym (state-give t h g)) s.1) }
+calm_give {c} {w} t h = record { capacity = refl; says = λ k g s. inl (open_give t h g ∙ s.0, subst (Fact c k) (sym (state_give t h g)) s.1) }
 
-pub fewer-give : (t : Table) (h : ℕ) → Fewer t (give t h)
-fewer-give t h = record { shut = λ g o. open-give t h g ∙ o }
+pub fewer_give : (t : Table) (h : ℕ) → Fewer t (give t h)
+fewer_give t h = record { shut = λ g o. open_give t h g ∙ o }
 
-pub calm-enter : {c : ℕ} {w : List ℕ} (t : Table) (i : ℕ) (b : Bool) (σ : State) → (at t i).in_use ≡ false → Calm c t w (enter t i b σ)
+pub calm_enter : {c : ℕ} {w : List ℕ} (t : Table) (i : ℕ) (b : Bool) (σ : State) → (at t i).in_use ≡ false → Calm c t w (enter t i b σ)
 unfolding enter
-calm-enter {c} {w} t i b σ v =
-    record { capacity = refl; says = λ k g s. let e = enter-open t i b σ g v s.0 in inl (e.0, subst (Fact c k) (sym e.1) s.1) }
+calm_enter {c} {w} t i b σ v =
+    record { capacity = refl; says = λ k g s. let e = enter_open t i b σ g v s.0 in inl (e.0, subst (Fact c k) (sym e.1) s.1) }
 
-pub fewer-leave : (t : Table) (h : ℕ) → Fewer t (leave t h)
-fewer-leave t h = record { shut = λ g o. ⊎_elim (λ e. e.1) (λ e. e.0 ∙ o) (at-leave t h g) }
+pub fewer_leave : (t : Table) (h : ℕ) → Fewer t (leave t h)
+fewer_leave t h = record { shut = λ g o. ⊎_elim (λ e. e.1) (λ e. e.0 ∙ o) (at_leave t h g) }
 
-fewer-then : {t u v : Table} → Fewer t u → Fewer u v → Fewer t v
-fewer-then a b = record { shut = λ g o. b.shut g (a.shut g o) }
+fewer_then : {t u v : Table} → Fewer t u → Fewer u v → Fewer t v
+fewer_then a b = record { shut = λ g o. b.shut g (a.shut g o) }
 
 pub fewer-close_all : (t : Table) (hs : List ℕ) → Fewer t (close_all t hs).next
 unfolding close_all
 fewer-close_all t [] = record { shut = λ g o. o }
-fewer-close_all t (h ∷ hs) = fewer-then (fewer-leave t h) (fewer-close_all (leave t h) hs)
+fewer-close_all t (h ∷ hs) = fewer_then (fewer_leave t h) (fewer-close_all (leave t h) hs)
 
 -- what is closed has told its peer or the registry
 pub open_one-told : (t : Table) (p : ℕ) → Memᴰ p (open_one t p) ⊎ (is_open t p ≡ false)
 unfolding open_one
 open_one-told t p = cond_both (λ l. Memᴰ p l ⊎ (is_open t p ≡ false)) (is_open t p) (λ e. inl (Memᴰ.head refl)) (λ e. inr e)
 
-told-peer : (t : Table) (h p p' : ℕ) → p ≡ p' → Memᴰ p' (open_one t p) ⊎ (is_open (leave t h) p' ≡ false)
-told-peer t h p p' e =
-    rw (← e) (⊎_elim (λ m. inl m) (λ o. inr ((fewer-leave t h).shut p o)) (open_one-told t p))
+told_peer : (t : Table) (h p p' : ℕ) → p ≡ p' → Memᴰ p' (open_one t p) ⊎ (is_open (leave t h) p' ≡ false)
+told_peer t h p p' e =
+    rw (← e) (⊎_elim (λ m. inl m) (λ o. inr ((fewer_leave t h).shut p o)) (open_one-told t p))
 
-told-leave : (c : ℕ) (t : Table) (h : ℕ) (σ : State) (k : Look) (g : ℕ) → is_open (leave t h) g ≡ false → Fact c k σ → Told (leave t h) (close_wakes t σ) k g
+told_leave : (c : ℕ) (t : Table) (h : ℕ) (σ : State) (k : Look) (g : ℕ) → is_open (leave t h) g ≡ false → Fact c k σ → Told (leave t h) (close_wakes t σ) k g
 unfolding close_wakes
-told-leave c t h State.Unbound k g o f = absurd f
-told-leave c t h (State.Bound m) k g o f = absurd f
-told-leave c t h (State.Listening m b q) idle g o f = inr o
-told-leave c t h (State.Listening m b q) (crowded n) g o f = inl (Memᴰ.head refl)
-told-leave c t h (State.Listening m b q) (peered p e) g o f = absurd f
-told-leave c t h (State.Connected p i x y) idle g o f = absurd f
-told-leave c t h (State.Connected p i x y) (crowded n) g o f = absurd f
-told-leave c t h (State.Connected p i x y) (peered p' linked) g o f = told-peer t h p p' f.0
-told-leave c t h (State.Connected p i x y) (peered p' silent) g o f = inr o
-told-leave c t h (State.Connected p i x y) (peered p' sending) g o f = inr o
-told-leave c t h (State.Connected p i x y) (peered p' full) g o f = told-peer t h p p' f.0
+told_leave c t h State.Unbound k g o f = absurd f
+told_leave c t h (State.Bound m) k g o f = absurd f
+told_leave c t h (State.Listening m b q) idle g o f = inr o
+told_leave c t h (State.Listening m b q) (crowded n) g o f = inl (Memᴰ.head refl)
+told_leave c t h (State.Listening m b q) (peered p e) g o f = absurd f
+told_leave c t h (State.Connected p i x y) idle g o f = absurd f
+told_leave c t h (State.Connected p i x y) (crowded n) g o f = absurd f
+told_leave c t h (State.Connected p i x y) (peered p' linked) g o f = told_peer t h p p' f.0
+told_leave c t h (State.Connected p i x y) (peered p' silent) g o f = inr o
+told_leave c t h (State.Connected p i x y) (peered p' sending) g o f = inr o
+told_leave c t h (State.Connected p i x y) (peered p' full) g o f = told_peer t h p p' f.0
 
 -- slot of h is left: whoever looked at it is told
-pub calm-leave : {c : ℕ} (t : Table) (h : ℕ) → Calm c t (close_wakes t (state_of t h)) (leave t h)
+pub calm_leave : {c : ℕ} (t : Table) (h : ℕ) → Calm c t (close_wakes t (state_of t h)) (leave t h)
 unfolding leave state_of
-calm-leave {c} t h =
+calm_leave {c} t h =
     record {
       capacity = refl;
       says = λ k g s.
           ⊎_elim
-          (λ e. inr (told-leave c t h (state_of t h) k g e.1 (subst (λ i. Fact c k (at t i).state) e.0 s.1)))
+          (λ e. inr (told_leave c t h (state_of t h) k g e.1 (subst (λ i. Fact c k (at t i).state) e.0 s.1)))
           (λ e. inl (e.0 ∙ s.0, subst (Fact c k) (sym e.1) s.1))
-          (at-leave t h g);
+          (at_leave t h g);
     }
 
 -- several sockets close, one after another
 pub calm-close_all : {c : ℕ} (t : Table) (hs : List ℕ) → Calm c t (close_all t hs).wakes (close_all t hs).next
 unfolding close_all
-calm-close_all t [] = calm-refl
+calm-close_all t [] = calm_refl
 calm-close_all t (h ∷ hs) =
-    calm-then
-    (calm_more (λ x m. Memᴰ.append_left _ m) (calm-leave t h))
+    calm_then
+    (calm_more (λ x m. Memᴰ.append_left _ m) (calm_leave t h))
     (calm_more (λ x m. Memᴰ.append_right (close_wakes t (state_of t h)) m) (calm-close_all (leave t h) hs))
     (fewer-close_all (leave t h) hs)

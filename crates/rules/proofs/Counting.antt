@@ -36,55 +36,55 @@ none-mem s q n = go (count s q) refl
     go zero e = e
     go (suc k) e = absurd (n (mem-count s q (omega arith)))
 
-pub once-count : (s : ℕ) (q : List ℕ) → Once q → Memᴰ s q → count s q ≡ 1
+pub once_count : (s : ℕ) (q : List ℕ) → Once q → Memᴰ s q → count s q ≡ 1
 unfolding count
-once-count s [] o m = absurd (Memᴰ.not-nil m)
-once-count s (x ∷ q) o m = go (ℕ_discrete x s) (once-count s q o.1)
+once_count s [] o m = absurd (Memᴰ.not-nil m)
+once_count s (x ∷ q) o m = go (ℕ_discrete x s) (once_count s q o.1)
   where
     go : Dec (x ≡ s) → (Memᴰ s q → count s q ≡ 1) → cond (eqb x s) 1 0 + count s q ≡ 1
     go (yes e) f = let z = none-mem s q (λ n. o.0 (subst (λ (k : ℕ). Memᴰ k q) (sym e) n)) in rw (eq-eqb x s e) (omega arith)
     go (no n) f = ⊎_elim (λ e. absurd (n (sym e))) (λ m'. let z = f m' in rw (ne_eqb x s n) (omega arith)) (Memᴰ.cases_cons m)
 
-pub count-once : (q : List ℕ) → ((s : ℕ) → Memᴰ s q → count s q ≤ 1) → Once q
+pub count_once : (q : List ℕ) → ((s : ℕ) → Memᴰ s q → count s q ≤ 1) → Once q
 unfolding count
-count-once [] f = tt
-count-once (x ∷ q) f = (
+count_once [] f = tt
+count_once (x ∷ q) f = (
   λ m. let h = count-mem x q m in let g : cond (eqb x x) 1 0 + count x q ≤ 1 = f x (Memᴰ.head refl) in let k : 1 + count x q ≤ 1 = rw (eq-eqb x x refl) at g in omega arith,
-  count-once q (λ s m. let g : cond (eqb x s) 1 0 + count s q ≤ 1 = f s (Memᴰ.tail m) in omega arith),
+  count_once q (λ s m. let g : cond (eqb x s) 1 0 + count s q ≤ 1 = f s (Memᴰ.tail m) in omega arith),
 )
 
 -- ── All queues ──
 
 module _ (t : Table) (s : ℕ) where
-  abbrev in-slot : ℕ → ℕ
-  in-slot i = count s (queued (at t i).state)
+  abbrev in_slot : ℕ → ℕ
+  in_slot i = count s (queued (at t i).state)
 
-  pub slot-below : (n i : ℕ) → i < n → in-slot i ≤ queued_in t n s
+  pub slot_below : (n i : ℕ) → i < n → in_slot i ≤ queued_in t n s
   unfolding queued_in
-  slot-below zero i h = absurd (omega arith)
-  slot-below (suc n) i h = go (ℕ_discrete i n) (slot-below n i)
+  slot_below zero i h = absurd (omega arith)
+  slot_below (suc n) i h = go (ℕ_discrete i n) (slot_below n i)
     where
-      go : Dec (i ≡ n) → (i < n → in-slot i ≤ queued_in t n s) → in-slot i ≤ in-slot n + queued_in t n s
+      go : Dec (i ≡ n) → (i < n → in_slot i ≤ queued_in t n s) → in_slot i ≤ in_slot n + queued_in t n s
       go (yes e) f = rw e (omega arith)
       go (no z) f = let k = f (omega arith) in omega arith
 
   -- two slots hold it: it is counted twice
-  pub two-slots : (n i j : ℕ) → i < j → j < n → in-slot i + in-slot j ≤ queued_in t n s
+  pub two_slots : (n i j : ℕ) → i < j → j < n → in_slot i + in_slot j ≤ queued_in t n s
   unfolding queued_in
-  two-slots zero i j a b = absurd (omega arith)
-  two-slots (suc n) i j a b = go (ℕ_discrete j n) (two-slots n i j a)
+  two_slots zero i j a b = absurd (omega arith)
+  two_slots (suc n) i j a b = go (ℕ_discrete j n) (two_slots n i j a)
     where
-      go : Dec (j ≡ n) → (j < n → in-slot i + in-slot j ≤ queued_in t n s) → in-slot i + in-slot j ≤ in-slot n + queued_in t n s
-      go (yes e) f = let k : in-slot i ≤ queued_in t n s = slot-below n i (omega arith) in rw e (omega arith)
+      go : Dec (j ≡ n) → (j < n → in_slot i + in_slot j ≤ queued_in t n s) → in_slot i + in_slot j ≤ in_slot n + queued_in t n s
+      go (yes e) f = let k : in_slot i ≤ queued_in t n s = slot_below n i (omega arith) in rw e (omega arith)
       go (no z) f = let k = f (omega arith) in omega arith
 
   -- some slot holds it
-  pub some-slot : (n : ℕ) → 1 ≤ queued_in t n s → (i : ℕ) × (i < n) × Memᴰ s (queued (at t i).state)
+  pub some_slot : (n : ℕ) → 1 ≤ queued_in t n s → (i : ℕ) × (i < n) × Memᴰ s (queued (at t i).state)
   unfolding queued_in
-  some-slot zero h = absurd (omega arith)
-  some-slot (suc n) h = go (in-slot n) refl (some-slot n)
+  some_slot zero h = absurd (omega arith)
+  some_slot (suc n) h = go (in_slot n) refl (some_slot n)
     where
-      go : (k : ℕ) → in-slot n ≡ k → (1 ≤ queued_in t n s → (i : ℕ) × (i < n) × Memᴰ s (queued (at t i).state)) → (i : ℕ) × (i < suc n) × Memᴰ s (queued (at t i).state)
+      go : (k : ℕ) → in_slot n ≡ k → (1 ≤ queued_in t n s → (i : ℕ) × (i < n) × Memᴰ s (queued (at t i).state)) → (i : ℕ) × (i < suc n) × Memᴰ s (queued (at t i).state)
       go zero e f = let r = f (omega arith) in (r.0, (let l = r.1 in omega arith), r.2)
       go (suc k) e f = (n, omega arith, mem-count s (queued (at t n).state) (omega arith))
 
@@ -94,11 +94,11 @@ module _ (t : Table) (s : ℕ) where
   none_here zero f = refl
   none_here (suc n) f = let a = none-mem s _ (f n (omega arith)) in let b = none_here n (λ j h. f j (omega arith)) in omega arith
 
-  pub one-slot : (n i : ℕ) → i < n → in-slot i ≡ 1 → ((j : ℕ) → j ≢ i → Memᴰ s (queued (at t j).state) → ⊥) → queued_in t n s ≡ 1
+  pub one_slot : (n i : ℕ) → i < n → in_slot i ≡ 1 → ((j : ℕ) → j ≢ i → Memᴰ s (queued (at t j).state) → ⊥) → queued_in t n s ≡ 1
   unfolding queued_in
-  one-slot zero i h e f = absurd (omega arith)
-  one-slot (suc n) i h e f = go (ℕ_discrete i n) (λ l. one-slot n i l e f)
+  one_slot zero i h e f = absurd (omega arith)
+  one_slot (suc n) i h e f = go (ℕ_discrete i n) (λ l. one_slot n i l e f)
     where
-      go : Dec (i ≡ n) → (i < n → queued_in t n s ≡ 1) → in-slot n + queued_in t n s ≡ 1
-      go (yes z) g = let a = none_here n (λ j l. f j (λ w. omega arith)) in let b : in-slot n ≡ 1 = rw (← z) e in omega arith
+      go : Dec (i ≡ n) → (i < n → queued_in t n s ≡ 1) → in_slot n + queued_in t n s ≡ 1
+      go (yes z) g = let a = none_here n (λ j l. f j (λ w. omega arith)) in let b : in_slot n ≡ 1 = rw (← z) e in omega arith
       go (no z) g = let a = none-mem s _ (f n (λ w. z (sym w))) in let b = g (omega arith) in omega arith

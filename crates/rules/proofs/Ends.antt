@@ -9,11 +9,11 @@ use mathlib.Core.List.{List, [], ◌∷◌}
 use lib.ListN.{length}
 use Rattle.laws.proofs.Tests.{cond_both}
 use Rattle.rules.proofs.Model.{Call, Inbox, State, Table, all_items, at, become, close_all, close_ends, connected, do_close, do_shutdown, drained, enter, free_slot, give, handle, is_open, leave, new_handle, nothing, room, run, slot_of, state_of}
-use Rattle.rules.proofs.Frame.{live-open, open-become, open-give, state-give, state-become, become-at, open-leave, at-enter, enter-open, unbound-not-listening, none-some, some_inj, slot-handle, open-used}
-use Rattle.rules.proofs.Wf.{peer_of, WellFormed, joined, others-stay, Kin, kin, not_yet}
+use Rattle.rules.proofs.Frame.{live_open, open_become, open_give, state_give, state_become, become_at, open_leave, at_enter, enter_open, unbound_not_listening, none_some, some_inj, slot_handle, open_used}
+use Rattle.rules.proofs.Wf.{peer_of, WellFormed, joined, others_stay, Kin, kin, not_yet}
 use Rattle.rules.proofs.InboxOk.{InboxOk, append-ok, rest_ok}
 use Rattle.rules.proofs.Walk.{Steps, walk}
-use Rattle.rules.proofs.WfRun.{ends-peer}
+use Rattle.rules.proofs.WfRun.{ends_peer}
 
 unfoldable pub in_of : State → Bool
 in_of State.Unbound = false
@@ -35,8 +35,8 @@ pub record Alike (t u : Table) : Type 0 where
   pub opens : (g : ℕ) → is_open u g ≡ true → is_open t g ≡ true
   pub alike : (g : ℕ) → is_open u g ≡ true → (peer_of (state_of u g) ≡ peer_of (state_of t g)) × (in_of (state_of u g) ≡ in_of (state_of t g)) × (out_of (state_of u g) ≡ out_of (state_of t g))
 
-ends-alike : {t u : Table} → Alike t u → Ends t → Ends u
-ends-alike a e =
+ends_alike : {t u : Table} → Alike t u → Ends t → Ends u
+ends_alike a e =
     record {
       ends = λ g p o k q.
           (a.alike g o).2 ∙ e.ends g p (a.opens g o) (sym (a.alike g o).0 ∙ k) (a.opens p q) ∙ sym (a.alike p q).1;
@@ -45,9 +45,9 @@ ends-alike a e =
 same_alike : {t u : Table} → ((g : ℕ) → is_open u g ≡ true → (is_open t g ≡ true) × (state_of u g ≡ state_of t g)) → Alike t u
 same_alike f = record { opens = λ g o. (f g o).0; alike = λ g o. (ap peer_of (f g o).1, ap in_of (f g o).1, ap out_of (f g o).1) }
 
-alike-become : (t : Table) (h : ℕ) (σ : State) → is_open t h ≡ true → peer_of σ ≡ peer_of (state_of t h) → in_of σ ≡ in_of (state_of t h) → out_of σ ≡ out_of (state_of t h) → Alike t (become t h σ)
-alike-become t h σ o p i q =
-    let back : (g : ℕ) → is_open (become t h σ) g ≡ true → is_open t g ≡ true = λ g a. sym (open-become t h σ g) ∙ a in
+alike_become : (t : Table) (h : ℕ) (σ : State) → is_open t h ≡ true → peer_of σ ≡ peer_of (state_of t h) → in_of σ ≡ in_of (state_of t h) → out_of σ ≡ out_of (state_of t h) → Alike t (become t h σ)
+alike_become t h σ o p i q =
+    let back : (g : ℕ) → is_open (become t h σ) g ≡ true → is_open t g ≡ true = λ g a. sym (open_become t h σ g) ∙ a in
     record {
       opens = back;
       alike = λ g a.
@@ -58,7 +58,7 @@ alike-become t h σ o p i q =
             ap out_of z.1 ∙ q ∙ ap (λ k. out_of (state_of t k)) (sym z.0),
           ))
           (λ z. (ap peer_of z.1, ap in_of z.1, ap out_of z.1))
-          (become-at t h σ g o (back g a));
+          (become_at t h σ g o (back g a));
     }
 
 alike_then : {t u v : Table} → Alike t u → Alike u v → Alike t v
@@ -71,8 +71,8 @@ alike_then a b =
           (y.0 ∙ x.0, y.1 ∙ x.1, y.2 ∙ x.2);
     }
 
-alike-give : (t : Table) (h : ℕ) → Alike t (give t h)
-alike-give t h = same_alike (λ g o. (sym (open-give t h g) ∙ o, state-give t h g))
+alike_give : (t : Table) (h : ℕ) → Alike t (give t h)
+alike_give t h = same_alike (λ g o. (sym (open_give t h g) ∙ o, state_give t h g))
 
 -- what is open after a close was open, in the same state
 pub close_all-old : (t : Table) (hs : List ℕ) (g : ℕ) → is_open (close_all t hs).next g ≡ true → (is_open t g ≡ true) × (state_of (close_all t hs).next g ≡ state_of t g)
@@ -80,36 +80,36 @@ unfolding close_all
 close_all-old t [] g o = (o, refl)
 close_all-old t (h ∷ hs) g o =
     let a = close_all-old (leave t h) hs g o in
-    let b = open-leave t h g a.0 in
+    let b = open_leave t h g a.0 in
     (b.0, a.1 ∙ b.1)
 
-ends-out : (a b : Bool) (σ : State) {k : ℕ} → peer_of σ ≡ some k → out_of (close_ends a b σ) ≡ (out_of σ || b)
+ends_out : (a b : Bool) (σ : State) {k : ℕ} → peer_of σ ≡ some k → out_of (close_ends a b σ) ≡ (out_of σ || b)
 unfolding close_ends peer_of out_of
-ends-out a b State.Unbound e = absurd (none-some e)
-ends-out a b (State.Bound m) e = absurd (none-some e)
-ends-out a b (State.Listening m k q) e = absurd (none-some e)
-ends-out a b (State.Connected p i x y) e = refl
+ends_out a b State.Unbound e = absurd (none_some e)
+ends_out a b (State.Bound m) e = absurd (none_some e)
+ends_out a b (State.Listening m k q) e = absurd (none_some e)
+ends_out a b (State.Connected p i x y) e = refl
 
-ends-in : (a b : Bool) (σ : State) {k : ℕ} → peer_of σ ≡ some k → in_of (close_ends a b σ) ≡ (in_of σ || a)
+ends_in : (a b : Bool) (σ : State) {k : ℕ} → peer_of σ ≡ some k → in_of (close_ends a b σ) ≡ (in_of σ || a)
 unfolding close_ends peer_of in_of
-ends-in a b State.Unbound e = absurd (none-some e)
-ends-in a b (State.Bound m) e = absurd (none-some e)
-ends-in a b (State.Listening m k q) e = absurd (none-some e)
-ends-in a b (State.Connected p i x y) e = refl
+ends_in a b State.Unbound e = absurd (none_some e)
+ends_in a b (State.Bound m) e = absurd (none_some e)
+ends_in a b (State.Listening m k q) e = absurd (none_some e)
+ends_in a b (State.Connected p i x y) e = refl
 
 module _ (t : Table) (w : WellFormed t) (e : Ends t) where
-  ends-socket : Ends (enter t (free_slot t) true State.Unbound)
+  ends_socket : Ends (enter t (free_slot t) true State.Unbound)
   unfolding peer_of
-  ends-socket =
+  ends_socket =
       record {
         ends = λ g p o k q.
             ⊎_elim
-            (λ z. absurd (none-some (sym (ap peer_of z.2) ∙ k)))
+            (λ z. absurd (none_some (sym (ap peer_of z.2) ∙ k)))
             (λ z. ⊎_elim
             (λ y. absurd (not_yet t w (free_slot t) g p z.0 (sym (ap peer_of z.1) ∙ k) y.0 y.1))
             (λ y. ap out_of z.1 ∙ e.ends g p z.0 (sym (ap peer_of z.1) ∙ k) y.0 ∙ sym (ap in_of y.1))
-            (at-enter t (free_slot t) true State.Unbound p q))
-            (at-enter t (free_slot t) true State.Unbound g o);
+            (at_enter t (free_slot t) true State.Unbound p q))
+            (at_enter t (free_slot t) true State.Unbound g o);
       }
 
   module _ (h : ℕ) (r : free_slot t < length t.slots) (v : (at t (free_slot t)).in_use ≡ false) (o : is_open t h ≡ true) (un : state_of t h ≡ State.Unbound) where
@@ -119,31 +119,31 @@ module _ (t : Table) (w : WellFormed t) (e : Ends t) where
     abbrev K : ℕ → Type 0
     K g = Kin t w (free_slot t) h r v o un g
 
-    new-closed : (p : ℕ) → handle (suc (at t (free_slot t)).gen) (free_slot t) ≡ p → is_open t p ≡ true → ⊥
-    new-closed p z a =
+    new_closed : (p : ℕ) → handle (suc (at t (free_slot t)).gen) (free_slot t) ≡ p → is_open t p ≡ true → ⊥
+    new_closed p z a =
         false≢true
-        (sym v ∙ ap (λ k. (at t k).in_use) (sym (slot-handle (suc (at t (free_slot t)).gen) (free_slot t) (omega (arith, w.sized))) ∙ ap slot_of z) ∙ open-used t p a)
+        (sym v ∙ ap (λ k. (at t k).in_use) (sym (slot_handle (suc (at t (free_slot t)).gen) (free_slot t) (omega (arith, w.sized))) ∙ ap slot_of z) ∙ open_used t p a)
 
-    ends-kin : (g p : ℕ) → K g → K p → peer_of (state_of J g) ≡ some p → out_of (state_of J g) ≡ in_of (state_of J p)
+    ends_kin : (g p : ℕ) → K g → K p → peer_of (state_of J g) ≡ some p → out_of (state_of J g) ≡ in_of (state_of J p)
     unfolding in_of out_of peer_of
-    ends-kin g p (Kin.server a s b) (Kin.server a' s' b') k = rw (b, b') refl
-    ends-kin g p (Kin.server a s b) (Kin.mine a' b') k = rw (b, b') refl
-    ends-kin g p (Kin.server a s b) (Kin.old a' b') k = ap out_of b ∙ sym (ap in_of (b' ∙ ap (state_of t) (sym (some_inj (sym (ap peer_of b) ∙ k))) ∙ un))
-    ends-kin g p (Kin.mine a b) (Kin.server a' s' b') k = rw (b, b') refl
-    ends-kin g p (Kin.mine a b) (Kin.mine a' b') k = rw (b, b') refl
-    ends-kin g p (Kin.mine a b) (Kin.old a' b') k = absurd (new-closed p (some_inj (sym (ap peer_of b) ∙ k)) a')
-    ends-kin g p (Kin.old a b) (Kin.server a' s' b') k = absurd (not_yet t w (free_slot t) g p a (sym (ap peer_of b) ∙ k) a' s')
-    ends-kin g p (Kin.old a b) (Kin.mine a' b') k = absurd (none-some (sym (ap peer_of un) ∙ sym (ap (λ z. peer_of (state_of t z)) a') ∙ w.paired g p a (sym (ap peer_of b) ∙ k) (ap (is_open t) a' ∙ o)))
-    ends-kin g p (Kin.old a b) (Kin.old a' b') k = ap out_of b ∙ e.ends g p a (sym (ap peer_of b) ∙ k) a' ∙ sym (ap in_of b')
+    ends_kin g p (Kin.server a s b) (Kin.server a' s' b') k = rw (b, b') refl
+    ends_kin g p (Kin.server a s b) (Kin.mine a' b') k = rw (b, b') refl
+    ends_kin g p (Kin.server a s b) (Kin.old a' b') k = ap out_of b ∙ sym (ap in_of (b' ∙ ap (state_of t) (sym (some_inj (sym (ap peer_of b) ∙ k))) ∙ un))
+    ends_kin g p (Kin.mine a b) (Kin.server a' s' b') k = rw (b, b') refl
+    ends_kin g p (Kin.mine a b) (Kin.mine a' b') k = rw (b, b') refl
+    ends_kin g p (Kin.mine a b) (Kin.old a' b') k = absurd (new_closed p (some_inj (sym (ap peer_of b) ∙ k)) a')
+    ends_kin g p (Kin.old a b) (Kin.server a' s' b') k = absurd (not_yet t w (free_slot t) g p a (sym (ap peer_of b) ∙ k) a' s')
+    ends_kin g p (Kin.old a b) (Kin.mine a' b') k = absurd (none_some (sym (ap peer_of un) ∙ sym (ap (λ z. peer_of (state_of t z)) a') ∙ w.paired g p a (sym (ap peer_of b) ∙ k) (ap (is_open t) a' ∙ o)))
+    ends_kin g p (Kin.old a b) (Kin.old a' b') k = ap out_of b ∙ e.ends g p a (sym (ap peer_of b) ∙ k) a' ∙ sym (ap in_of b')
 
-    ends-joined : Ends J
-    ends-joined = record { ends = λ g p a k q. ends-kin g p (kin t w (free_slot t) h r v o un g a) (kin t w (free_slot t) h r v o un p q) k }
+    ends_joined : Ends J
+    ends_joined = record { ends = λ g p a k q. ends_kin g p (kin t w (free_slot t) h r v o un g a) (kin t w (free_slot t) h r v o un p q) k }
 
-    ends-connect : (l : ℕ) (m : List ℕ) (b : ℕ) (q : List ℕ) → is_open t l ≡ true → state_of t l ≡ State.Listening m b q → Ends (connected t h l m b q)
+    ends_connect : (l : ℕ) (m : List ℕ) (b : ℕ) (q : List ℕ) → is_open t l ≡ true → state_of t l ≡ State.Listening m b q → Ends (connected t h l m b q)
     unfolding connected new_handle joined peer_of in_of out_of
-    ends-connect l m b q ol is =
-        let z : state_of J l ≡ State.Listening m b q = others-stay t w (free_slot t) h r v o un l ol (λ y. unbound-not-listening (sym y ∙ is)) ∙ is in
-        ends-alike (alike-become J l _ (open-become _ h _ l ∙ (enter-open t (free_slot t) false _ l v ol).0) (rw z refl) (rw z refl) (rw z refl)) ends-joined
+    ends_connect l m b q ol is =
+        let z : state_of J l ≡ State.Listening m b q = others_stay t w (free_slot t) h r v o un l ol (λ y. unbound_not_listening (sym y ∙ is)) ∙ is in
+        ends_alike (alike_become J l _ (open_become _ h _ l ∙ (enter_open t (free_slot t) false _ l v ol).0) (rw z refl) (rw z refl) (rw z refl)) ends_joined
 
   -- shutdown: both ends of the pair change together
   module _ (h p : ℕ) (i : Inbox) (x y rd wr : Bool) (o : is_open t h ≡ true) (is : state_of t h ≡ State.Connected p i x y) where
@@ -153,26 +153,26 @@ module _ (t : Table) (w : WellFormed t) (e : Ends t) where
     abbrev U : Table
     U = become t h σ
 
-    peer-h : peer_of (state_of t h) ≡ some p
+    peer_h : peer_of (state_of t h) ≡ some p
     unfolding peer_of
-    peer-h = rw is refl
+    peer_h = rw is refl
 
     -- the peer gone: nobody points at h
-    ends-half : is_open t p ≡ false → Ends U
+    ends_half : is_open t p ≡ false → Ends U
     unfolding peer_of
-    ends-half n =
+    ends_half n =
         record {
           ends = λ g r a k q.
-              let a' : is_open t g ≡ true = sym (open-become t h σ g) ∙ a in
-              let q' : is_open t r ≡ true = sym (open-become t h σ r) ∙ q in
+              let a' : is_open t g ≡ true = sym (open_become t h σ g) ∙ a in
+              let q' : is_open t r ≡ true = sym (open_become t h σ r) ∙ q in
               ⊎_elim
               (λ z. absurd (false≢true (sym n ∙ ap (is_open t) (some_inj (sym (ap peer_of z.1) ∙ k)) ∙ q')))
               (λ z. let k' : peer_of (state_of t g) ≡ some r = sym (ap peer_of z.1) ∙ k in
               ⊎_elim
-              (λ z'. absurd (false≢true (sym n ∙ ap (is_open t) (some_inj (sym peer-h ∙ ap (λ c. peer_of (state_of t c)) (sym z'.0) ∙ w.paired g r a' k' q')) ∙ a')))
+              (λ z'. absurd (false≢true (sym n ∙ ap (is_open t) (some_inj (sym peer_h ∙ ap (λ c. peer_of (state_of t c)) (sym z'.0) ∙ w.paired g r a' k' q')) ∙ a')))
               (λ z'. ap out_of z.1 ∙ e.ends g r a' k' q' ∙ sym (ap in_of z'.1))
-              (become-at t h σ r o q'))
-              (become-at t h σ g o a');
+              (become_at t h σ r o q'))
+              (become_at t h σ g o a');
         }
 
     abbrev Z : Table
@@ -180,79 +180,79 @@ module _ (t : Table) (w : WellFormed t) (e : Ends t) where
 
     module _ (n : is_open t p ≡ true) where
       back : peer_of (state_of t p) ≡ some h
-      back = w.paired h p o peer-h n
+      back = w.paired h p o peer_h n
 
       d : h ≢ p
-      d z = w.apart h o (peer-h ∙ ap some (sym z))
+      d z = w.apart h o (peer_h ∙ ap some (sym z))
 
-      same-p : state_of U p ≡ state_of t p
-      same-p = ⊎_elim (λ z. absurd (d (sym z.0))) (λ z. z.1) (become-at t h σ p o n)
+      same_p : state_of U p ≡ state_of t p
+      same_p = ⊎_elim (λ z. absurd (d (sym z.0))) (λ z. z.1) (become_at t h σ p o n)
 
       data Part (c : ℕ) : Type 0 where
-        is-p : c ≡ p → state_of Z c ≡ close_ends wr rd (state_of t p) → Part c
-        is-h : c ≡ h → state_of Z c ≡ σ → Part c
-        is-other : c ≢ p → c ≢ h → state_of Z c ≡ state_of t c → Part c
+        is_p : c ≡ p → state_of Z c ≡ close_ends wr rd (state_of t p) → Part c
+        is_h : c ≡ h → state_of Z c ≡ σ → Part c
+        is_other : c ≢ p → c ≢ h → state_of Z c ≡ state_of t c → Part c
 
       part : (c : ℕ) → is_open t c ≡ true → Part c
       part c a =
           ⊎_elim
-          (λ z. is-p z.0 (z.1 ∙ ap (close_ends wr rd) same-p))
+          (λ z. is_p z.0 (z.1 ∙ ap (close_ends wr rd) same_p))
           (λ z. ⊎_elim
-          (λ z'. is-h z'.0 (z.1 ∙ z'.1))
-          (λ z'. is-other z.0 z'.0 (z.1 ∙ z'.1))
-          (become-at t h σ c o a))
-          (become-at U p _ c (open-become t h σ p ∙ n) (open-become t h σ c ∙ a))
+          (λ z'. is_h z'.0 (z.1 ∙ z'.1))
+          (λ z'. is_other z.0 z'.0 (z.1 ∙ z'.1))
+          (become_at t h σ c o a))
+          (become_at U p _ c (open_become t h σ p ∙ n) (open_become t h σ c ∙ a))
 
-      peer-part : (c : ℕ) → Part c → peer_of (state_of Z c) ≡ peer_of (state_of t c)
+      peer_part : (c : ℕ) → Part c → peer_of (state_of Z c) ≡ peer_of (state_of t c)
       unfolding peer_of
-      peer-part c (is-p a b) = ap peer_of b ∙ ends-peer wr rd (state_of t p) ∙ ap (λ k. peer_of (state_of t k)) (sym a)
-      peer-part c (is-h a b) = ap peer_of b ∙ sym peer-h ∙ ap (λ k. peer_of (state_of t k)) (sym a)
-      peer-part c (is-other a b f) = ap peer_of f
+      peer_part c (is_p a b) = ap peer_of b ∙ ends_peer wr rd (state_of t p) ∙ ap (λ k. peer_of (state_of t k)) (sym a)
+      peer_part c (is_h a b) = ap peer_of b ∙ sym peer_h ∙ ap (λ k. peer_of (state_of t k)) (sym a)
+      peer_part c (is_other a b f) = ap peer_of f
 
-      ends-part : (g r : ℕ) → is_open t g ≡ true → is_open t r ≡ true → Part g → Part r → peer_of (state_of t g) ≡ some r → out_of (state_of Z g) ≡ in_of (state_of Z r)
+      ends_part : (g r : ℕ) → is_open t g ≡ true → is_open t r ≡ true → Part g → Part r → peer_of (state_of t g) ≡ some r → out_of (state_of Z g) ≡ in_of (state_of Z r)
       unfolding in_of out_of
-      ends-part g r a q (is-p b f) (is-p b' f') k = absurd (w.apart g a (k ∙ ap some (b' ∙ sym b)))
-      ends-part g r a q (is-p b f) (is-h b' f') k =
-          ap out_of f ∙ ends-out wr rd (state_of t p) back ∙ ap (λ z. z || rd) (e.ends p h n back o ∙ ap in_of is) ∙ sym (ap in_of f')
-      ends-part g r a q (is-p b f) (is-other b' c' f') k = absurd (c' (some_inj (sym k ∙ ap (λ z. peer_of (state_of t z)) b ∙ back)))
-      ends-part g r a q (is-h b f) (is-p b' f') k =
-          ap out_of f ∙ ap (λ z. z || wr) (sym (ap out_of is) ∙ e.ends h p o peer-h n) ∙ sym (ends-in wr rd (state_of t p) back) ∙ sym (ap in_of f')
-      ends-part g r a q (is-h b f) (is-h b' f') k = absurd (w.apart g a (k ∙ ap some (b' ∙ sym b)))
-      ends-part g r a q (is-h b f) (is-other b' c' f') k = absurd (b' (some_inj (sym k ∙ ap (λ z. peer_of (state_of t z)) b ∙ peer-h)))
-      ends-part g r a q (is-other b c f) (is-p b' f') k = absurd (c (some_inj (sym (w.paired g r a k q) ∙ ap (λ z. peer_of (state_of t z)) b' ∙ back)))
-      ends-part g r a q (is-other b c f) (is-h b' f') k = absurd (b (some_inj (sym (w.paired g r a k q) ∙ ap (λ z. peer_of (state_of t z)) b' ∙ peer-h)))
-      ends-part g r a q (is-other b c f) (is-other b' c' f') k = ap out_of f ∙ e.ends g r a k q ∙ sym (ap in_of f')
+      ends_part g r a q (is_p b f) (is_p b' f') k = absurd (w.apart g a (k ∙ ap some (b' ∙ sym b)))
+      ends_part g r a q (is_p b f) (is_h b' f') k =
+          ap out_of f ∙ ends_out wr rd (state_of t p) back ∙ ap (λ z. z || rd) (e.ends p h n back o ∙ ap in_of is) ∙ sym (ap in_of f')
+      ends_part g r a q (is_p b f) (is_other b' c' f') k = absurd (c' (some_inj (sym k ∙ ap (λ z. peer_of (state_of t z)) b ∙ back)))
+      ends_part g r a q (is_h b f) (is_p b' f') k =
+          ap out_of f ∙ ap (λ z. z || wr) (sym (ap out_of is) ∙ e.ends h p o peer_h n) ∙ sym (ends_in wr rd (state_of t p) back) ∙ sym (ap in_of f')
+      ends_part g r a q (is_h b f) (is_h b' f') k = absurd (w.apart g a (k ∙ ap some (b' ∙ sym b)))
+      ends_part g r a q (is_h b f) (is_other b' c' f') k = absurd (b' (some_inj (sym k ∙ ap (λ z. peer_of (state_of t z)) b ∙ peer_h)))
+      ends_part g r a q (is_other b c f) (is_p b' f') k = absurd (c (some_inj (sym (w.paired g r a k q) ∙ ap (λ z. peer_of (state_of t z)) b' ∙ back)))
+      ends_part g r a q (is_other b c f) (is_h b' f') k = absurd (b (some_inj (sym (w.paired g r a k q) ∙ ap (λ z. peer_of (state_of t z)) b' ∙ peer_h)))
+      ends_part g r a q (is_other b c f) (is_other b' c' f') k = ap out_of f ∙ e.ends g r a k q ∙ sym (ap in_of f')
 
-      ends-whole : Ends Z
-      ends-whole =
+      ends_whole : Ends Z
+      ends_whole =
           record {
             ends = λ g r a k q.
-                let a' : is_open t g ≡ true = sym (open-become t h σ g) ∙ sym (open-become U p _ g) ∙ a in
-                let q' : is_open t r ≡ true = sym (open-become t h σ r) ∙ sym (open-become U p _ r) ∙ q in
-                ends-part g r a' q' (part g a') (part r q') (sym (peer-part g (part g a')) ∙ k);
+                let a' : is_open t g ≡ true = sym (open_become t h σ g) ∙ sym (open_become U p _ g) ∙ a in
+                let q' : is_open t r ≡ true = sym (open_become t h σ r) ∙ sym (open_become U p _ r) ∙ q in
+                ends_part g r a' q' (part g a') (part r q') (sym (peer_part g (part g a')) ∙ k);
           }
 
-  ends-steps : Steps t (λ u. Ends u.next)
+  ends_steps : Steps t (λ u. Ends u.next)
   unfolding drained do_shutdown do_close peer_of in_of out_of
-  ends-steps =
+  ends_steps =
       record {
         refused = λ n. e;
         unchanged = λ v. e;
-        socket = λ r v y. ends-socket;
-        bind = λ h n l k a z f. ends-alike (alike-become t h _ (live-open t h l) (rw k refl) (rw k refl) (rw k refl)) e;
-        listen = λ h n m l k. ends-alike (alike-become t h _ (live-open t h l) (rw k refl) (rw k refl) (rw k refl)) e;
-        again = λ h n m b q l k. ends-alike (alike-become t h _ (live-open t h l) (rw k refl) (rw k refl) (rw k refl)) e;
-        accept = λ h m b s q l k. ends-alike (alike_then (alike-become t h _ (live-open t h l) (rw k refl) (rw k refl) (rw k refl)) (alike-give _ s)) e;
-        connect = λ h c m b q l un o k f r v z. ends-connect h r v (live-open t h l) un c m b q o k;
-        read = λ h n m p i x y l k f. ends-alike (alike-become t h _ (live-open t h l) (rw k refl) (rw k refl) (rw k refl)) e;
-        write = λ h p i x y new its o k r f g. ends-alike (alike-become t p _ o (rw k refl) (rw k refl) (rw k refl)) e;
+        socket = λ r v y. ends_socket;
+        bind = λ h n l k a z f. ends_alike (alike_become t h _ (live_open t h l) (rw k refl) (rw k refl) (rw k refl)) e;
+        listen = λ h n m l k. ends_alike (alike_become t h _ (live_open t h l) (rw k refl) (rw k refl) (rw k refl)) e;
+        again = λ h n m b q l k. ends_alike (alike_become t h _ (live_open t h l) (rw k refl) (rw k refl) (rw k refl)) e;
+        accept = λ h m b s q l k. ends_alike (alike_then (alike_become t h _ (live_open t h l) (rw k refl) (rw k refl) (rw k refl)) (alike_give _ s)) e;
+        connect = λ h c m b q l un o k f r v z. ends_connect h r v (live_open t h l) un c m b q o k;
+        read = λ h n m p i x y l k f. ends_alike (alike_become t h _ (live_open t h l) (rw k refl) (rw k refl) (rw k refl)) e;
+        write = λ h p i x y new its o k r f g. ends_alike (alike_become t p _ o (rw k refl) (rw k refl) (rw k refl)) e;
         shutdown = λ h p i x y rd wr l k.
-            cond_both Ends (is_open t p) (λ n. ends-whole h p i x y rd wr (live-open t h l) k n) (λ n. ends-half h p i x y rd wr (live-open t h l) k n);
-        close = λ h l. ends-alike (same_alike (close_all-old t _)) e;
+            cond_both Ends (is_open t p) (λ n. ends_whole h p i x y rd wr (live_open t h l) k n) (λ n. ends_half h p i x y rd wr (live_open t h l) k n);
+        close = λ h l. ends_alike (same_alike (close_all-old t _)) e;
       }
 
-  pub ends-run : (y : Call) → Ends (run t y).next
-  ends-run y = walk t w.sized (λ u. Ends u.next) ends-steps y
+  pub ends_run : (y : Call) → Ends (run t y).next
+  ends_run y = walk t w.sized (λ u. Ends u.next) ends_steps y
 
 -- ── inboxes ──
 
@@ -270,12 +270,12 @@ nothing_ok : (c : ℕ) → InboxOk c nothing
 unfolding all_items
 nothing_ok c = record { fits = omega arith; rising = tt; few = omega arith }
 
-ends-ok : (c : ℕ) (a b : Bool) (σ : State) → StateOk c σ → StateOk c (close_ends a b σ)
+ends_ok : (c : ℕ) (a b : Bool) (σ : State) → StateOk c σ → StateOk c (close_ends a b σ)
 unfolding close_ends
-ends-ok c a b State.Unbound k = tt
-ends-ok c a b (State.Bound m) k = tt
-ends-ok c a b (State.Listening m n q) k = tt
-ends-ok c a b (State.Connected p i x y) k = k
+ends_ok c a b State.Unbound k = tt
+ends_ok c a b (State.Bound m) k = tt
+ends_ok c a b (State.Listening m n q) k = tt
+ends_ok c a b (State.Connected p i x y) k = k
 
 room-close_all : (t : Table) (hs : List ℕ) → (close_all t hs).next.capacity ≡ t.capacity
 unfolding close_all leave
@@ -283,49 +283,49 @@ room-close_all t [] = refl
 room-close_all t (h ∷ hs) = room-close_all (leave t h) hs
 
 module _ (c : ℕ) where
-  in-become : (t : Table) (h : ℕ) (σ : State) → Inboxes c t → StateOk c σ → Inboxes c (become t h σ)
+  in_become : (t : Table) (h : ℕ) (σ : State) → Inboxes c t → StateOk c σ → Inboxes c (become t h σ)
   unfolding become
-  in-become t h σ w k =
+  in_become t h σ w k =
       record {
         capacity = w.capacity;
-        ok = λ g a. ⊎_elim (λ z. subst (StateOk c) (sym z.1) k) (λ z. subst (StateOk c) (sym z) (w.ok g (sym (open-become t h σ g) ∙ a))) (state-become t h σ g);
+        ok = λ g a. ⊎_elim (λ z. subst (StateOk c) (sym z.1) k) (λ z. subst (StateOk c) (sym z) (w.ok g (sym (open_become t h σ g) ∙ a))) (state_become t h σ g);
       }
 
-  in-enter : (t : Table) (i : ℕ) (b : Bool) (σ : State) → Inboxes c t → StateOk c σ → Inboxes c (enter t i b σ)
+  in_enter : (t : Table) (i : ℕ) (b : Bool) (σ : State) → Inboxes c t → StateOk c σ → Inboxes c (enter t i b σ)
   unfolding enter
-  in-enter t i b σ w k =
+  in_enter t i b σ w k =
       record {
         capacity = w.capacity;
-        ok = λ g a. ⊎_elim (λ z. subst (StateOk c) (sym z.2) k) (λ z. subst (StateOk c) (sym z.1) (w.ok g z.0)) (at-enter t i b σ g a);
+        ok = λ g a. ⊎_elim (λ z. subst (StateOk c) (sym z.2) k) (λ z. subst (StateOk c) (sym z.1) (w.ok g z.0)) (at_enter t i b σ g a);
       }
 
-  in-give : (t : Table) (h : ℕ) → Inboxes c t → Inboxes c (give t h)
+  in_give : (t : Table) (h : ℕ) → Inboxes c t → Inboxes c (give t h)
   unfolding give
-  in-give t h w = record { capacity = w.capacity; ok = λ g a. subst (StateOk c) (sym (state-give t h g)) (w.ok g (sym (open-give t h g) ∙ a)) }
+  in_give t h w = record { capacity = w.capacity; ok = λ g a. subst (StateOk c) (sym (state_give t h g)) (w.ok g (sym (open_give t h g) ∙ a)) }
 
-  inbox-of : (t : Table) → Inboxes c t → (g : ℕ) {p : ℕ} {i : Inbox} {x y : Bool} → is_open t g ≡ true → state_of t g ≡ State.Connected p i x y → InboxOk c i
-  inbox-of t w g o k = subst (StateOk c) k (w.ok g o)
+  inbox_of : (t : Table) → Inboxes c t → (g : ℕ) {p : ℕ} {i : Inbox} {x y : Bool} → is_open t g ≡ true → state_of t g ≡ State.Connected p i x y → InboxOk c i
+  inbox_of t w g o k = subst (StateOk c) k (w.ok g o)
 
-  in-steps : (t : Table) → Inboxes c t → Steps t (λ u. Inboxes c u.next)
+  in_steps : (t : Table) → Inboxes c t → Steps t (λ u. Inboxes c u.next)
   unfolding drained do_shutdown do_close connected room
-  in-steps t w =
+  in_steps t w =
       record {
         refused = λ n. w;
         unchanged = λ v. w;
-        socket = λ r v y. in-enter t _ true State.Unbound w tt;
-        bind = λ h n l k a z f. in-become t h _ w tt;
-        listen = λ h n m l k. in-become t h _ w tt;
-        again = λ h n m b q l k. in-become t h _ w tt;
-        accept = λ h m b s q l k. in-give _ s (in-become t h _ w tt);
-        connect = λ h l m b q l' un o k f r v z. in-become _ l _ (in-become _ h _ (in-enter t _ false _ w (nothing_ok c)) (nothing_ok c)) tt;
-        read = λ h n m p i x y l k f. in-become t h _ w (rest_ok c i n (inbox-of t w h (live-open t h l) k));
+        socket = λ r v y. in_enter t _ true State.Unbound w tt;
+        bind = λ h n l k a z f. in_become t h _ w tt;
+        listen = λ h n m l k. in_become t h _ w tt;
+        again = λ h n m b q l k. in_become t h _ w tt;
+        accept = λ h m b s q l k. in_give _ s (in_become t h _ w tt);
+        connect = λ h l m b q l' un o k f r v z. in_become _ l _ (in_become _ h _ (in_enter t _ false _ w (nothing_ok c)) (nothing_ok c)) tt;
+        read = λ h n m p i x y l k f. in_become t h _ w (rest_ok c i n (inbox_of t w h (live_open t h l) k));
         write = λ h p i x y new its o k r f g.
-            in-become t p _ w (rw w.capacity (append-ok c i new its (rw w.capacity at r) f g (inbox-of t w p o k)));
+            in_become t p _ w (rw w.capacity (append-ok c i new its (rw w.capacity at r) f g (inbox_of t w p o k)));
         shutdown = λ h p i x y rd wr l k.
-            let u = in-become t h (State.Connected p (cond rd nothing i) (x || rd) (y || wr)) w (cond_both (InboxOk c) rd (λ _. nothing_ok c) (λ _. inbox-of t w h (live-open t h l) k)) in
-            cond_both (Inboxes c) (is_open t p) (λ n. in-become _ p _ u (ends-ok c wr rd _ (u.ok p (open-become t h _ p ∙ n)))) (λ n. u);
+            let u = in_become t h (State.Connected p (cond rd nothing i) (x || rd) (y || wr)) w (cond_both (InboxOk c) rd (λ _. nothing_ok c) (λ _. inbox_of t w h (live_open t h l) k)) in
+            cond_both (Inboxes c) (is_open t p) (λ n. in_become _ p _ u (ends_ok c wr rd _ (u.ok p (open_become t h _ p ∙ n)))) (λ n. u);
         close = λ h l. record { capacity = room-close_all t _ ∙ w.capacity; ok = λ g a. let z = close_all-old t _ g a in subst (StateOk c) (sym z.1) (w.ok g z.0) };
       }
 
-  pub in-run : (t : Table) → length t.slots ≤ 1024 → Inboxes c t → (y : Call) → Inboxes c (run t y).next
-  in-run t fit w y = walk t fit (λ u. Inboxes c u.next) (in-steps t w) y
+  pub in_run : (t : Table) → length t.slots ≤ 1024 → Inboxes c t → (y : Call) → Inboxes c (run t y).next
+  in_run t fit w y = walk t fit (λ u. Inboxes c u.next) (in_steps t w) y

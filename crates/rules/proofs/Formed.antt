@@ -8,9 +8,9 @@ use lib.ListN.{length, length-replicate}
 use borrow.Author.Tests.{leb-true}
 use Rattle.laws.proofs.Tests.{and_left, and_right}
 use Rattle.rules.proofs.Model.{Table, Call, vacant, fresh, after, in_range, run}
-use Rattle.rules.proofs.QueuesRun.{Sound, sound-run, sound-fresh}
-use Rattle.rules.proofs.Shape.{Shape, shape-run, shape-fresh}
-use Rattle.rules.proofs.Sized.{sized-run}
+use Rattle.rules.proofs.QueuesRun.{Sound, sound_run, sound_fresh}
+use Rattle.rules.proofs.Shape.{Shape, shape_run, shape_fresh}
+use Rattle.rules.proofs.Sized.{sized_run}
 
 pub record Formed (t : Table) : Type 0 where
   pub range : in_range (length t.slots) t.capacity ≡ true
@@ -21,19 +21,19 @@ pub few : (n c : ℕ) → in_range n c ≡ true → n ≤ 1024
 unfolding in_range
 few n c r = leb-true n 1024 (and_right (leb 1 n) _ (and_left (leb 1 n && leb n 1024) _ (and_left (leb 1 n && leb n 1024 && leb 1 c) _ r)))
 
-pub formed-run : (t : Table) → Formed t → (y : Call) → Formed (run t y).next
-formed-run t f y =
-    let s = sized-run t f.sound.wf.sized y in
+pub formed_run : (t : Table) → Formed t → (y : Call) → Formed (run t y).next
+formed_run t f y =
+    let s = sized_run t f.sound.wf.sized y in
     record {
       range = rw (s.size, s.room) f.range;
-      sound = subst (λ (c : ℕ). Sound c (run t y).next) (sym s.room) (sound-run t.capacity t f.sound y);
-      shape = shape-run t f.sound.wf.sized f.shape f.sound.queues y;
+      sound = subst (λ (c : ℕ). Sound c (run t y).next) (sym s.room) (sound_run t.capacity t f.sound y);
+      shape = shape_run t f.sound.wf.sized f.shape f.sound.queues y;
     }
 
-pub formed-fresh : (n c : ℕ) → in_range n c ≡ true → Formed (fresh n c)
-formed-fresh n c r = record { range = rw (length-replicate n vacant) r; sound = sound-fresh n c (few n c r); shape = shape-fresh n c }
+pub formed_fresh : (n c : ℕ) → in_range n c ≡ true → Formed (fresh n c)
+formed_fresh n c r = record { range = rw (length-replicate n vacant) r; sound = sound_fresh n c (few n c r); shape = shape_fresh n c }
 
-pub formed-after : (t : Table) (cs : List Call) → Formed t → Formed (after t cs)
+pub formed_after : (t : Table) (cs : List Call) → Formed t → Formed (after t cs)
 unfolding after
-formed-after t [] f = f
-formed-after t (c ∷ cs) f = formed-after (run t c).next cs (formed-run t f c)
+formed_after t [] f = f
+formed_after t (c ∷ cs) f = formed_after (run t c).next cs (formed_run t f c)

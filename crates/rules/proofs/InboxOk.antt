@@ -76,10 +76,10 @@ shift low len k (m ∷ ms) l r =
     let e : suc m.place - k ≡ suc (m.place - k) = omega arith in
     (omega arith, omega arith, r.2, subst (λ z. Rising z (len - k) (map (nearer k) ms)) e (shift (suc m.place) len k ms (omega arith) r.3))
 
-shift-first : (low len k n : ℕ) (ms : List Group) → k ≡ up_to ms n → Rising low len ms → Rising 0 (len - k) (map (nearer k) ms)
+shift_first : (low len k n : ℕ) (ms : List Group) → k ≡ up_to ms n → Rising low len ms → Rising 0 (len - k) (map (nearer k) ms)
 unfolding up_to nearer
-shift-first low len k n [] e r = tt
-shift-first low len k n (m ∷ ms) e r =
+shift_first low len k n [] e r = tt
+shift_first low len k n (m ∷ ms) e r =
     let b = r.1 in
     let z : suc m.place - k ≡ suc (m.place - k) = omega arith in
     (omega arith, omega arith, r.2, subst (λ z. Rising z (len - k) (map (nearer k) ms)) z (shift (suc m.place) len k ms (omega arith) r.3))
@@ -89,28 +89,28 @@ unfolding up_to
 up_to-le [] n = omega arith
 up_to-le (m ∷ ms) n = omega arith
 
-others-rising : (len : ℕ) (ms : List Group) → Rising 0 len ms → (low : ℕ) × Rising low len (others ms)
+others_rising : (len : ℕ) (ms : List Group) → Rising 0 len ms → (low : ℕ) × Rising low len (others ms)
 unfolding others
-others-rising len [] r = (0, tt)
-others-rising len (m ∷ ms) r = cond_both (λ o. (low : ℕ) × Rising low len o) (eqb m.place 0) (λ _. (suc m.place, r.3)) (λ _. (0, r))
+others_rising len [] r = (0, tt)
+others_rising len (m ∷ ms) r = cond_both (λ o. (low : ℕ) × Rising low len o) (eqb m.place 0) (λ _. (suc m.place, r.3)) (λ _. (0, r))
 
-others-few : (ms : List Group) → length (all_items (others ms)) ≤ length (all_items ms)
+others_few : (ms : List Group) → length (all_items (others ms)) ≤ length (all_items ms)
 unfolding others all_items
-others-few [] = omega arith
-others-few (m ∷ ms) = cond_both (λ o. length (all_items o) ≤ length (m.items ++ all_items ms)) (eqb m.place 0) (λ _. simp length-append (omega arith)) (λ _. simp length-append (omega arith))
+others_few [] = omega arith
+others_few (m ∷ ms) = cond_both (λ o. length (all_items o) ≤ length (m.items ++ all_items ms)) (eqb m.place 0) (λ _. simp length-append (omega arith)) (λ _. simp length-append (omega arith))
 
-pub items-nearer : (k : ℕ) (ms : List Group) → all_items (map (nearer k) ms) ≡ all_items ms
+pub items_nearer : (k : ℕ) (ms : List Group) → all_items (map (nearer k) ms) ≡ all_items ms
 unfolding all_items nearer
-items-nearer k [] = refl
-items-nearer k (m ∷ ms) = ap (λ (l : List ℕ). m.items ++ l) (items-nearer k ms)
+items_nearer k [] = refl
+items_nearer k (m ∷ ms) = ap (λ (l : List ℕ). m.items ++ l) (items_nearer k ms)
 
 pub rest_ok : (c : ℕ) (b : Inbox) (n : ℕ) → InboxOk c b → InboxOk c (rest b (moved b n))
 unfolding rest moved
 rest_ok c b n ok =
     let k : ℕ = moved b n in
-    let r = others-rising (length b.bytes) b.groups ok.rising in
+    let r = others_rising (length b.bytes) b.groups ok.rising in
     record {
       fits = rw length-drop (omega (arith, ok.fits));
-      rising = rw length-drop (shift-first r.0 (length b.bytes) k (min n (length b.bytes)) (others b.groups) refl r.1);
-      few = rw items-nearer (omega (arith, others-few b.groups, ok.few));
+      rising = rw length-drop (shift_first r.0 (length b.bytes) k (min n (length b.bytes)) (others b.groups) refl r.1);
+      few = rw items_nearer (omega (arith, others_few b.groups, ok.few));
     }

@@ -99,12 +99,12 @@ pair = listener 4 ++ socket ∷ Call.Connect h1 root ∷ Call.Accept h0 ∷ []
 abbrev pub some_bytes : ℕ → List ℕ
 some_bytes k = replicate k 1
 
-abbrev pub some-items : ℕ → List ℕ
-some-items k = replicate k 7
+abbrev pub some_items : ℕ → List ℕ
+some_items k = replicate k 7
 
 -- the client has written k bytes
-abbrev pub queued-bytes : ℕ → List Call
-queued-bytes k = pair ++ Call.Write h1 (some_bytes k) ∷ []
+abbrev pub queued_bytes : ℕ → List Call
+queued_bytes k = pair ++ Call.Write h1 (some_bytes k) ∷ []
 
 -- "ab" with item 5, "cd" with 6
 abbrev pub groups : List Call
@@ -115,14 +115,14 @@ groups = pair ++ Call.Sendmsg h1 (97 ∷ 98 ∷ []) (5 ∷ []) ∷ Call.Sendmsg 
 abbrev pub lines : List Line
 lines =
     -- "8 queued, write of nothing: 8"
-    line 4 (queued-bytes 8) (Call.Write h1 []) (refused 8)
+    line 4 (queued_bytes 8) (Call.Write h1 []) (refused 8)
     -- "7 queued, write 3: 1 byte"
-    ∷ line 4 (queued-bytes 7) (Call.Write h1 (some_bytes 3)) (accepted 1 (h2 ∷ []) [])
+    ∷ line 4 (queued_bytes 7) (Call.Write h1 (some_bytes 3)) (accepted 1 (h2 ∷ []) [])
     -- "5 queued, no bytes, one item: 2"
-    ∷ line 4 (queued-bytes 5) (Call.Sendmsg h1 [] (9 ∷ [])) (refused 2)
+    ∷ line 4 (queued_bytes 5) (Call.Sendmsg h1 [] (9 ∷ [])) (refused 2)
     -- "250 items queued, 1 byte with 6 more passes, with 7: 11"
-    ∷ line 4 (pair ++ Call.Sendmsg h1 (some_bytes 1) (some-items 250) ∷ []) (Call.Sendmsg h1 (some_bytes 1) (some-items 6)) (accepted 1 (h2 ∷ []) [])
-    ∷ line 4 (pair ++ Call.Sendmsg h1 (some_bytes 1) (some-items 250) ∷ []) (Call.Sendmsg h1 (some_bytes 1) (some-items 7)) (refused 11)
+    ∷ line 4 (pair ++ Call.Sendmsg h1 (some_bytes 1) (some_items 250) ∷ []) (Call.Sendmsg h1 (some_bytes 1) (some_items 6)) (accepted 1 (h2 ∷ []) [])
+    ∷ line 4 (pair ++ Call.Sendmsg h1 (some_bytes 1) (some_items 250) ∷ []) (Call.Sendmsg h1 (some_bytes 1) (some_items 7)) (refused 11)
     -- "backlog 0: 8"
     ∷ line 4 (listener 0 ++ socket ∷ []) (Call.Connect h1 root) (refused 8)
     -- "recvmsg, empty buffer, unbound: 2"
@@ -137,9 +137,9 @@ lines =
     ∷ line 4 groups (Call.Read h2 0) (gives 0 (h1 ∷ []) (5 ∷ []) [] [] 0)
     ∷ []
 
-pub the-lines : All Right lines
+pub the_lines : All Right lines
 unfolding model
-the-lines = all_right lines refl
+the_lines = all_right lines refl
 
 -- ── more lines ──
 
@@ -213,18 +213,18 @@ more =
     -- read of 0 bytes: on an empty inbox 8, on one with bytes 0 and a wake
     ∷ line 4 pair (Call.Read h2 0) (refused 8)
     ∷ line 4 pair (Call.Read h2 10) (refused 8)
-    ∷ line 4 (queued-bytes 2) (Call.Read h2 0) (accepted 0 (h1 ∷ []) [])
+    ∷ line 4 (queued_bytes 2) (Call.Read h2 0) (accepted 0 (h1 ∷ []) [])
     -- a read does not cross into the next group, and a longer one than is queued gives what is there
     ∷ line 4 groups (Call.Read h2 10) (gives 2 (h1 ∷ []) (5 ∷ []) (97 ∷ 98 ∷ []) [] 0)
     ∷ line 4 (groups ++ Call.Read h2 10 ∷ []) (Call.Read h2 10) (gives 2 (h1 ∷ []) (6 ∷ []) (99 ∷ 100 ∷ []) [] 0)
-    ∷ line 4 (queued-bytes 2 ++ Call.Sendmsg h1 (99 ∷ 100 ∷ []) (6 ∷ []) ∷ []) (Call.Recvmsg h2 10 4) (gives 2 (h1 ∷ []) [] (1 ∷ 1 ∷ []) [] 0)
+    ∷ line 4 (queued_bytes 2 ++ Call.Sendmsg h1 (99 ∷ 100 ∷ []) (6 ∷ []) ∷ []) (Call.Recvmsg h2 10 4) (gives 2 (h1 ∷ []) [] (1 ∷ 1 ∷ []) [] 0)
     -- end of stream: the peer has sent and closed, and its bytes are still read; then 0 bytes, and no wake
     ∷ line 4 (groups ++ Call.Close h1 ∷ []) (Call.Recvmsg h2 10 4) (gives 2 [] [] (97 ∷ 98 ∷ []) (5 ∷ []) 0)
     ∷ line 4 (groups ++ Call.Close h1 ∷ Call.Read h2 10 ∷ Call.Read h2 10 ∷ []) (Call.Read h2 10) (accepted 0 [] [])
     ∷ line 4 (groups ++ Call.Close h1 ∷ Call.Read h2 10 ∷ Call.Read h2 10 ∷ []) (Call.Recvmsg h2 10 4) (accepted 0 [] [])
     -- the peer has shut its writing: the bytes are still read, with a wake; then 0 bytes, and no wake
-    ∷ line 4 (queued-bytes 2 ++ Call.Shutdown h1 (pos 1) ∷ []) (Call.Read h2 10) (gives 2 (h1 ∷ []) [] (1 ∷ 1 ∷ []) [] 0)
-    ∷ line 4 (queued-bytes 2 ++ Call.Shutdown h1 (pos 1) ∷ Call.Read h2 10 ∷ []) (Call.Read h2 10) (accepted 0 [] [])
+    ∷ line 4 (queued_bytes 2 ++ Call.Shutdown h1 (pos 1) ∷ []) (Call.Read h2 10) (gives 2 (h1 ∷ []) [] (1 ∷ 1 ∷ []) [] 0)
+    ∷ line 4 (queued_bytes 2 ++ Call.Shutdown h1 (pos 1) ∷ Call.Read h2 10 ∷ []) (Call.Read h2 10) (accepted 0 [] [])
     -- recvmsg with a list shorter than the group: the first items, the rest released, flag 8; with a list of the group's length no flag
     ∷ line 4 (pair ++ Call.Sendmsg h1 (97 ∷ []) (5 ∷ 6 ∷ 7 ∷ []) ∷ []) (Call.Recvmsg h2 10 2) (gives 1 (h1 ∷ []) (7 ∷ []) (97 ∷ []) (5 ∷ 6 ∷ []) 8)
     ∷ line 4 (pair ++ Call.Sendmsg h1 (97 ∷ []) (5 ∷ 6 ∷ 7 ∷ []) ∷ []) (Call.Recvmsg h2 10 3) (gives 1 (h1 ∷ []) [] (97 ∷ []) (5 ∷ 6 ∷ 7 ∷ []) 0)
@@ -235,20 +235,20 @@ more =
     ∷ line 4 pair (Call.Write h1 []) (accepted 0 (h2 ∷ []) [])
     ∷ line 5 pending (Call.Write h2 (some_bytes 3)) (accepted 3 (h3 ∷ []) [])
     -- a closed outbox answers 10 before 8
-    ∷ line 4 (queued-bytes 8 ++ Call.Shutdown h1 (pos 1) ∷ []) (Call.Write h1 (some_bytes 1)) (refused 10)
-    ∷ line 4 (queued-bytes 8 ++ Call.Shutdown h2 (pos 0) ∷ []) (Call.Write h1 (some_bytes 1)) (refused 10)
+    ∷ line 4 (queued_bytes 8 ++ Call.Shutdown h1 (pos 1) ∷ []) (Call.Write h1 (some_bytes 1)) (refused 10)
+    ∷ line 4 (queued_bytes 8 ++ Call.Shutdown h2 (pos 0) ∷ []) (Call.Write h1 (some_bytes 1)) (refused 10)
     -- a full inbox answers 8 before 2 and 11
-    ∷ line 4 (queued-bytes 8) (Call.Sendmsg h1 [] (9 ∷ [])) (refused 8)
-    ∷ line 4 (queued-bytes 8) (Call.Sendmsg h1 (some_bytes 1) (some-items 257)) (refused 8)
+    ∷ line 4 (queued_bytes 8) (Call.Sendmsg h1 [] (9 ∷ [])) (refused 8)
+    ∷ line 4 (queued_bytes 8) (Call.Sendmsg h1 (some_bytes 1) (some_items 257)) (refused 8)
     -- 257 items: with no bytes 2, not 11
-    ∷ line 4 pair (Call.Sendmsg h1 [] (some-items 257)) (refused 2)
-    ∷ line 4 pair (Call.Sendmsg h1 (some_bytes 1) (some-items 257)) (refused 11)
+    ∷ line 4 pair (Call.Sendmsg h1 [] (some_items 257)) (refused 2)
+    ∷ line 4 pair (Call.Sendmsg h1 (some_bytes 1) (some_items 257)) (refused 11)
     -- 256 queued items, and a send without items: accepted
-    ∷ line 4 (pair ++ Call.Sendmsg h1 (some_bytes 1) (some-items 256) ∷ []) (Call.Sendmsg h1 (some_bytes 1) []) (accepted 1 (h2 ∷ []) [])
-    ∷ line 4 (pair ++ Call.Sendmsg h1 (some_bytes 1) (some-items 256) ∷ []) (Call.Sendmsg h1 (some_bytes 1) (9 ∷ [])) (refused 11)
+    ∷ line 4 (pair ++ Call.Sendmsg h1 (some_bytes 1) (some_items 256) ∷ []) (Call.Sendmsg h1 (some_bytes 1) []) (accepted 1 (h2 ∷ []) [])
+    ∷ line 4 (pair ++ Call.Sendmsg h1 (some_bytes 1) (some_items 256) ∷ []) (Call.Sendmsg h1 (some_bytes 1) (9 ∷ [])) (refused 11)
     -- a short send takes all its items: they lie at its first byte
-    ∷ line 4 (queued-bytes 7) (Call.Sendmsg h1 (97 ∷ 98 ∷ []) (5 ∷ 6 ∷ [])) (accepted 1 (h2 ∷ []) [])
-    ∷ line 4 (queued-bytes 7 ++ Call.Sendmsg h1 (97 ∷ 98 ∷ []) (5 ∷ 6 ∷ []) ∷ Call.Read h2 10 ∷ []) (Call.Recvmsg h2 10 4) (gives 1 (h1 ∷ []) [] (97 ∷ []) (5 ∷ 6 ∷ []) 0)
+    ∷ line 4 (queued_bytes 7) (Call.Sendmsg h1 (97 ∷ 98 ∷ []) (5 ∷ 6 ∷ [])) (accepted 1 (h2 ∷ []) [])
+    ∷ line 4 (queued_bytes 7 ++ Call.Sendmsg h1 (97 ∷ 98 ∷ []) (5 ∷ 6 ∷ []) ∷ Call.Read h2 10 ∷ []) (Call.Recvmsg h2 10 4) (gives 1 (h1 ∷ []) [] (97 ∷ []) (5 ∷ 6 ∷ []) 0)
     -- shutdown: a number that is none of 0, 1, 2 is 2, after the handle and before the state
     ∷ line 4 (socket ∷ []) (Call.Shutdown h0 (pos 3)) (refused 2)
     ∷ line 4 (socket ∷ []) (Call.Shutdown h0 (negsuc 0)) (refused 2)
@@ -285,20 +285,20 @@ more =
     ∷ line 5 pending (Call.Readiness h0) (accepted 1 [] [])
     -- connected: writable 2; with bytes queued 3; with bytes queued and the outbox closed 1; with the peer's inbox full 0
     ∷ line 4 pair (Call.Readiness h2) (accepted 2 [] [])
-    ∷ line 4 (queued-bytes 7) (Call.Readiness h1) (accepted 2 [] [])
-    ∷ line 4 (queued-bytes 7) (Call.Readiness h2) (accepted 3 [] [])
-    ∷ line 4 (queued-bytes 7 ++ Call.Shutdown h2 (pos 1) ∷ []) (Call.Readiness h2) (accepted 1 [] [])
-    ∷ line 4 (queued-bytes 8) (Call.Readiness h1) (accepted 0 [] [])
+    ∷ line 4 (queued_bytes 7) (Call.Readiness h1) (accepted 2 [] [])
+    ∷ line 4 (queued_bytes 7) (Call.Readiness h2) (accepted 3 [] [])
+    ∷ line 4 (queued_bytes 7 ++ Call.Shutdown h2 (pos 1) ∷ []) (Call.Readiness h2) (accepted 1 [] [])
+    ∷ line 4 (queued_bytes 8) (Call.Readiness h1) (accepted 0 [] [])
     -- an inbox that is closed is readable; the peer gone 5, with bytes queued or not
     ∷ line 4 (pair ++ Call.Shutdown h1 (pos 1) ∷ []) (Call.Readiness h2) (accepted 3 [] [])
     ∷ line 4 (pair ++ Call.Shutdown h1 (pos 2) ∷ []) (Call.Readiness h2) (accepted 1 [] [])
     ∷ line 4 (pair ++ Call.Close h1 ∷ []) (Call.Readiness h2) (accepted 5 [] [])
-    ∷ line 4 (queued-bytes 2 ++ Call.Close h1 ∷ []) (Call.Readiness h2) (accepted 5 [] [])
+    ∷ line 4 (queued_bytes 2 ++ Call.Close h1 ∷ []) (Call.Readiness h2) (accepted 5 [] [])
     ∷ []
 
-pub more-lines : All Right more
+pub more_lines : All Right more
 unfolding model
-more-lines = all_right more refl
+more_lines = all_right more refl
 
 -- ── slots retire ──
 

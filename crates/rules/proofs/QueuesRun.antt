@@ -7,26 +7,26 @@ use lib.ListN.{length}
 use Rattle.laws.proofs.Tests.{cond_both}
 use Rattle.rules.specs.WellFormed.{is_connected}
 use Rattle.rules.proofs.Model.{Table, State, Call, Outcome, fresh, after, is_open, become, connected, new_handle, free_slot, drained, do_shutdown, do_close, close_ends, queued, nothing, run}
-use Rattle.rules.proofs.Frame.{live-open, live-given}
+use Rattle.rules.proofs.Frame.{live_open, live_given}
 use Rattle.rules.proofs.Wf.{WellFormed}
-use Rattle.rules.proofs.WfRun.{kept_run, none_open, wf-fresh}
+use Rattle.rules.proofs.WfRun.{kept_run, none_open, wf_fresh}
 use Rattle.rules.proofs.Walk.{Steps, walk}
-use Rattle.rules.proofs.Ends.{Ends, Inboxes, ends-run, in-run}
-use Rattle.rules.proofs.Queues.{Queues, Even, queues-even, even-become, even-then, queues-accept, queues-connect, queues-close, queues-socket}
+use Rattle.rules.proofs.Ends.{Ends, Inboxes, ends_run, in_run}
+use Rattle.rules.proofs.Queues.{Queues, Even, queues_even, even_become, even_then, queues_accept, queues_connect, queues_close, queues_socket}
 
-ends-queue : (a b : Bool) (σ : State) → queued (close_ends a b σ) ≡ queued σ
+ends_queue : (a b : Bool) (σ : State) → queued (close_ends a b σ) ≡ queued σ
 unfolding close_ends queued
-ends-queue a b State.Unbound = refl
-ends-queue a b (State.Bound m) = refl
-ends-queue a b (State.Listening m k q) = refl
-ends-queue a b (State.Connected p i x y) = refl
+ends_queue a b State.Unbound = refl
+ends_queue a b (State.Bound m) = refl
+ends_queue a b (State.Listening m k q) = refl
+ends_queue a b (State.Connected p i x y) = refl
 
-ends-conn : (a b : Bool) (σ : State) → is_connected σ ≡ true → is_connected (close_ends a b σ) ≡ true
+ends_conn : (a b : Bool) (σ : State) → is_connected σ ≡ true → is_connected (close_ends a b σ) ≡ true
 unfolding close_ends is_connected
-ends-conn a b State.Unbound e = e
-ends-conn a b (State.Bound m) e = e
-ends-conn a b (State.Listening m k q) e = e
-ends-conn a b (State.Connected p i x y) e = e
+ends_conn a b State.Unbound e = e
+ends_conn a b (State.Bound m) e = e
+ends_conn a b (State.Listening m k q) e = e
+ends_conn a b (State.Connected p i x y) e = e
 
 abbrev QN : Outcome → Type 0
 QN o = Queues o.next
@@ -37,22 +37,22 @@ steps t fit q =
     record {
       refused = λ n. q;
       unchanged = λ v. q;
-      socket = λ r v y. queues-socket t q (free_slot t) fit r v;
-      bind = λ h n l e a b f. queues-even (even-become t h _ (rw e refl) (rw e (λ z. z))) q;
-      listen = λ h k m l e. queues-even (even-become t h _ (rw e refl) (rw e (λ z. z))) q;
-      again = λ h k m b r l e. queues-even (even-become t h _ (rw e refl) (rw e (λ z. z))) q;
-      accept = λ h m b s r l e. queues-accept t q h s r (live-open t h l) (State.Listening m b r) (rw e refl) refl;
+      socket = λ r v y. queues_socket t q (free_slot t) fit r v;
+      bind = λ h n l e a b f. queues_even (even_become t h _ (rw e refl) (rw e (λ z. z))) q;
+      listen = λ h k m l e. queues_even (even_become t h _ (rw e refl) (rw e (λ z. z))) q;
+      again = λ h k m b r l e. queues_even (even_become t h _ (rw e refl) (rw e (λ z. z))) q;
+      accept = λ h m b s r l e. queues_accept t q h s r (live_open t h l) (State.Listening m b r) (rw e refl) refl;
       connect = λ h k m b r l un o e f i v z.
-          queues-connect t q (free_slot t) h k fit i v (live-open t h l) o (rw un refl) (rw un refl) (rw e refl) (State.Connected h nothing false false)
+          queues_connect t q (free_slot t) h k fit i v (live_open t h l) o (rw un refl) (rw un refl) (rw e refl) (State.Connected h nothing false false)
           (State.Connected _ nothing false false) (State.Listening m b (r ++ _ ∷ [])) refl refl refl (rw e refl);
-      read = λ h k m p i x y l e n. queues-even (even-become t h _ (rw e refl) (λ z. refl)) q;
-      write = λ h p i x y new its o e r f g. queues-even (even-become t p _ (rw e refl) (λ z. refl)) q;
+      read = λ h k m p i x y l e n. queues_even (even_become t h _ (rw e refl) (λ z. refl)) q;
+      write = λ h p i x y new its o e r f g. queues_even (even_become t p _ (rw e refl) (λ z. refl)) q;
       shutdown = λ h p i x y rd wr l e.
-          let mine : Even t (become t h (State.Connected p (cond rd nothing i) (x || rd) (y || wr))) = even-become t h _ (rw e refl) (λ z. refl) in
+          let mine : Even t (become t h (State.Connected p (cond rd nothing i) (x || rd) (y || wr))) = even_become t h _ (rw e refl) (λ z. refl) in
           cond_both Queues (is_open t p)
-          (λ _. queues-even (even-then mine (even-become _ p _ (ends-queue wr rd _) (ends-conn wr rd _))) q)
-          (λ _. queues-even mine q);
-      close = λ h l. queues-close t q h (live-open t h l) (live-given t h l);
+          (λ _. queues_even (even_then mine (even_become _ p _ (ends_queue wr rd _) (ends_conn wr rd _))) q)
+          (λ _. queues_even mine q);
+      close = λ h l. queues_close t q h (live_open t h l) (live_given t h l);
     }
 
 -- what every reachable table has
@@ -62,13 +62,13 @@ pub record Sound (c : ℕ) (t : Table) : Type 0 where
   pub ends : Ends t
   pub inboxes : Inboxes c t
 
-pub sound-run : (c : ℕ) (t : Table) → Sound c t → (y : Call) → Sound c (run t y).next
-sound-run c t s y = record { wf = kept_run t s.wf y; ends = ends-run t s.wf s.ends y; inboxes = in-run c t s.wf.sized s.inboxes y; queues = walk t s.wf.sized QN (steps t s.wf.sized s.queues) y }
+pub sound_run : (c : ℕ) (t : Table) → Sound c t → (y : Call) → Sound c (run t y).next
+sound_run c t s y = record { wf = kept_run t s.wf y; ends = ends_run t s.wf s.ends y; inboxes = in_run c t s.wf.sized s.inboxes y; queues = walk t s.wf.sized QN (steps t s.wf.sized s.queues) y }
 
-pub sound-fresh : (n c : ℕ) → n ≤ 1024 → Sound c (fresh n c)
-sound-fresh n c l =
+pub sound_fresh : (n c : ℕ) → n ≤ 1024 → Sound c (fresh n c)
+sound_fresh n c l =
     record {
-      wf = wf-fresh n c l;
+      wf = wf_fresh n c l;
       ends = record { ends = λ g p o k q. absurd (none_open n c g o) };
       inboxes = record { capacity = refl; ok = λ g o. absurd (none_open n c g o) };
       queues =
@@ -80,7 +80,7 @@ sound-fresh n c l =
           };
     }
 
-pub sound-after : (c : ℕ) (t : Table) (cs : List Call) → Sound c t → Sound c (after t cs)
+pub sound_after : (c : ℕ) (t : Table) (cs : List Call) → Sound c t → Sound c (after t cs)
 unfolding after
-sound-after c t [] s = s
-sound-after c t (y ∷ cs) s = sound-after c (run t y).next cs (sound-run c t s y)
+sound_after c t [] s = s
+sound_after c t (y ∷ cs) s = sound_after c (run t y).next cs (sound_run c t s y)

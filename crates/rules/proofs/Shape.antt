@@ -9,10 +9,10 @@ use mathlib.Core.List.{List, [], ◌∷◌}
 use lib.ListN.{length}
 use Rattle.laws.proofs.Tests.{cond_both}
 use Rattle.rules.proofs.Model.{Table, Slot, State, Inbox, Call, closed, fresh, at, put, slot_of, is_open, state_of, become, give, enter, leave, connected, new_handle, free_slot, drained, close_ends, do_shutdown, do_close, close_all, queued, nothing, run}
-use Rattle.rules.proofs.Frame.{at-put, open-used, open-handle, live-open, open-become, enter-open}
+use Rattle.rules.proofs.Frame.{at_put, open_used, open_handle, live_open, open_become, enter_open}
 use Rattle.rules.proofs.Walk.{Steps, walk}
 use Rattle.rules.proofs.Queues.{Queues}
-use Rattle.rules.proofs.WfRun.{vacant-all}
+use Rattle.rules.proofs.WfRun.{vacant_all}
 use Rattle.rules.proofs.InboxOk.{nil-length}
 
 -- a state's name has 1 to 255 bytes, and its peer lives or has lived
@@ -31,83 +31,83 @@ pub record SlotGood (s : Slot) : Type 0 where
 pub record Shape (t : Table) : Type 0 where
   pub good : (i : ℕ) → SlotGood (at t i)
 
-pub closed-good : (g : ℕ) → g ≤ 4294967295 → SlotGood (closed g)
-closed-good g h = record { young = h; lived = λ e. absurd (false≢true e); shut = λ e. refl; state = tt }
+pub closed_good : (g : ℕ) → g ≤ 4294967295 → SlotGood (closed g)
+closed_good g h = record { young = h; lived = λ e. absurd (false≢true e); shut = λ e. refl; state = tt }
 
 -- ── One slot changes ──
 
-shape-put : (t : Table) (i : ℕ) (s : Slot) → Shape t → SlotGood s → Shape (put t i s)
-shape-put t i s w g = record { good = λ j. ⊎_elim (λ e. subst SlotGood (sym e.1) g) (λ e. subst SlotGood (sym e) (w.good j)) (at-put t i s j) }
+shape_put : (t : Table) (i : ℕ) (s : Slot) → Shape t → SlotGood s → Shape (put t i s)
+shape_put t i s w g = record { good = λ j. ⊎_elim (λ e. subst SlotGood (sym e.1) g) (λ e. subst SlotGood (sym e) (w.good j)) (at_put t i s j) }
 
-not-shut : {X : Type 0} {b : Bool} → b ≡ true → b ≡ false → X
-not-shut p q = absurd (true≢false (sym p ∙ q))
+not_shut : {X : Type 0} {b : Bool} → b ≡ true → b ≡ false → X
+not_shut p q = absurd (true≢false (sym p ∙ q))
 
-shape-become : (t : Table) (h : ℕ) (σ : State) → is_open t h ≡ true → StateGood σ → Shape t → Shape (become t h σ)
+shape_become : (t : Table) (h : ℕ) (σ : State) → is_open t h ≡ true → StateGood σ → Shape t → Shape (become t h σ)
 unfolding become
-shape-become t h σ o g w =
+shape_become t h σ o g w =
     let s = w.good (slot_of h) in
-    shape-put t (slot_of h) _ w (record { young = s.young; lived = s.lived; shut = not-shut (open-used t h o); state = g })
+    shape_put t (slot_of h) _ w (record { young = s.young; lived = s.lived; shut = not_shut (open_used t h o); state = g })
 
-shape-give : (t : Table) (h : ℕ) → is_open t h ≡ true → Shape t → Shape (give t h)
+shape_give : (t : Table) (h : ℕ) → is_open t h ≡ true → Shape t → Shape (give t h)
 unfolding give
-shape-give t h o w =
+shape_give t h o w =
     let s = w.good (slot_of h) in
-    shape-put t (slot_of h) _ w (record { young = s.young; lived = s.lived; shut = not-shut (open-used t h o); state = s.state })
+    shape_put t (slot_of h) _ w (record { young = s.young; lived = s.lived; shut = not_shut (open_used t h o); state = s.state })
 
-shape-enter : (t : Table) (i : ℕ) (b : Bool) (σ : State) → (at t i).gen < 4294967295 → StateGood σ → Shape t → Shape (enter t i b σ)
+shape_enter : (t : Table) (i : ℕ) (b : Bool) (σ : State) → (at t i).gen < 4294967295 → StateGood σ → Shape t → Shape (enter t i b σ)
 unfolding enter
-shape-enter t i b σ y g w = shape-put t i _ w (record { young = y; lived = λ _. omega arith; shut = λ e. absurd (true≢false e); state = g })
+shape_enter t i b σ y g w = shape_put t i _ w (record { young = y; lived = λ _. omega arith; shut = λ e. absurd (true≢false e); state = g })
 
-shape-leave : (t : Table) (h : ℕ) → Shape t → Shape (leave t h)
+shape_leave : (t : Table) (h : ℕ) → Shape t → Shape (leave t h)
 unfolding leave
-shape-leave t h w = shape-put t (slot_of h) _ w (closed-good _ (w.good (slot_of h)).young)
+shape_leave t h w = shape_put t (slot_of h) _ w (closed_good _ (w.good (slot_of h)).young)
 
 shape-close_all : (t : Table) (hs : List ℕ) → Shape t → Shape (close_all t hs).next
 unfolding close_all
 shape-close_all t [] w = w
-shape-close_all t (h ∷ hs) w = shape-close_all (leave t h) hs (shape-leave t h w)
+shape-close_all t (h ∷ hs) w = shape-close_all (leave t h) hs (shape_leave t h w)
 
 -- ── Every call ──
 
 -- the state of an open socket, and its handle's generation
-of-state : (t : Table) (h : ℕ) (σ : State) → Shape t → state_of t h ≡ σ → StateGood σ
+of_state : (t : Table) (h : ℕ) (σ : State) → Shape t → state_of t h ≡ σ → StateGood σ
 unfolding state_of
-of-state t h σ w e = subst StateGood e (w.good (slot_of h)).state
+of_state t h σ w e = subst StateGood e (w.good (slot_of h)).state
 
-pub of-open : (t : Table) (h : ℕ) → Shape t → is_open t h ≡ true → 1 ≤ h / 65536
-of-open t h w o =
-    let g = (w.good (slot_of h)).lived (open-used t h o) in
-    let e = open-handle t h o in
+pub of_open : (t : Table) (h : ℕ) → Shape t → is_open t h ≡ true → 1 ≤ h / 65536
+of_open t h w o =
+    let g = (w.good (slot_of h)).lived (open_used t h o) in
+    let e = open_handle t h o in
     omega arith
 
-ends-good : (a b : Bool) (σ : State) → StateGood σ → StateGood (close_ends a b σ)
+ends_good : (a b : Bool) (σ : State) → StateGood σ → StateGood (close_ends a b σ)
 unfolding close_ends
-ends-good a b State.Unbound g = g
-ends-good a b (State.Bound m) g = g
-ends-good a b (State.Listening m k q) g = g
-ends-good a b (State.Connected p i x y) g = g
+ends_good a b State.Unbound g = g
+ends_good a b (State.Bound m) g = g
+ends_good a b (State.Listening m k q) g = g
+ends_good a b (State.Connected p i x y) g = g
 
 module _ (t : Table) (fit : length t.slots ≤ 1024) (w : Shape t) (q : Queues t) where
   made : free_slot t < length t.slots → 1 ≤ new_handle t / 65536
   unfolding new_handle
   made h = omega arith
 
-  connect-good : (h l : ℕ) (m : List ℕ) (b : ℕ) (k : List ℕ) → is_open t h ≡ true → is_open t l ≡ true → state_of t l ≡ State.Listening m b k
+  connect_good : (h l : ℕ) (m : List ℕ) (b : ℕ) (k : List ℕ) → is_open t h ≡ true → is_open t l ≡ true → state_of t l ≡ State.Listening m b k
       → free_slot t < length t.slots → (at t (free_slot t)).in_use ≡ false → (at t (free_slot t)).gen < 4294967295 → Shape (connected t h l m b k)
   unfolding connected
-  connect-good h l m b k o ol e r v y =
+  connect_good h l m b k o ol e r v y =
       let t₁ = enter t (free_slot t) false (State.Connected h nothing false false) in
-      let w₁ = shape-enter t (free_slot t) false (State.Connected h nothing false false) y (of-open t h w o) w in
+      let w₁ = shape_enter t (free_slot t) false (State.Connected h nothing false false) y (of_open t h w o) w in
       let t₂ = become t₁ h (State.Connected (new_handle t) nothing false false) in
-      let w₂ = shape-become t₁ h (State.Connected (new_handle t) nothing false false) (enter-open t (free_slot t) false _ h v o).0 (made r) w₁ in
-      shape-become t₂ l _ (open-become t₁ h _ l ∙ (enter-open t (free_slot t) false _ l v ol).0) (of-state t l _ w e) w₂
+      let w₂ = shape_become t₁ h (State.Connected (new_handle t) nothing false false) (enter_open t (free_slot t) false _ h v o).0 (made r) w₁ in
+      shape_become t₂ l _ (open_become t₁ h _ l ∙ (enter_open t (free_slot t) false _ l v ol).0) (of_state t l _ w e) w₂
 
-  shut-good : (h p : ℕ) (i : Inbox) (x y rd wr : Bool) → is_open t h ≡ true → state_of t h ≡ State.Connected p i x y → Shape (do_shutdown t h rd wr (State.Connected p i x y)).next
+  shut_good : (h p : ℕ) (i : Inbox) (x y rd wr : Bool) → is_open t h ≡ true → state_of t h ≡ State.Connected p i x y → Shape (do_shutdown t h rd wr (State.Connected p i x y)).next
   unfolding do_shutdown state_of
-  shut-good h p i x y rd wr o e =
+  shut_good h p i x y rd wr o e =
       let u = become t h (State.Connected p (cond rd nothing i) (x || rd) (y || wr)) in
-      let v = shape-become t h (State.Connected p (cond rd nothing i) (x || rd) (y || wr)) o (of-state t h _ w e) w in
-      cond_both Shape (is_open t p) (λ a. shape-become u p _ (open-become t h _ p ∙ a) (ends-good wr rd _ (v.good (slot_of p)).state) v) (λ a. v)
+      let v = shape_become t h (State.Connected p (cond rd nothing i) (x || rd) (y || wr)) o (of_state t h _ w e) w in
+      cond_both Shape (is_open t p) (λ a. shape_become u p _ (open_become t h _ p ∙ a) (ends_good wr rd _ (v.good (slot_of p)).state) v) (λ a. v)
 
   steps : Steps t (λ o. Shape o.next)
   unfolding drained do_close queued
@@ -115,22 +115,22 @@ module _ (t : Table) (fit : length t.slots ≤ 1024) (w : Shape t) (q : Queues t
       record {
         refused = λ n. w;
         unchanged = λ v. w;
-        socket = λ r v y. shape-enter t (free_slot t) true State.Unbound y tt w;
-        bind = λ h n l e a b f. shape-become t h _ (live-open t h l) (nil-length n a, b) w;
-        listen = λ h k m l e. shape-become t h _ (live-open t h l) (of-state t h _ w e) w;
-        again = λ h k m b q l e. shape-become t h _ (live-open t h l) (of-state t h _ w e) w;
+        socket = λ r v y. shape_enter t (free_slot t) true State.Unbound y tt w;
+        bind = λ h n l e a b f. shape_become t h _ (live_open t h l) (nil-length n a, b) w;
+        listen = λ h k m l e. shape_become t h _ (live_open t h l) (of_state t h _ w e) w;
+        again = λ h k m b q l e. shape_become t h _ (live_open t h l) (of_state t h _ w e) w;
         accept = λ h m b s r l e.
-            shape-give _ s (open-become t h _ s ∙ (q.entries h s (live-open t h l) (rw e (Memᴰ.head refl))).here)
-            (shape-become t h _ (live-open t h l) (of-state t h _ w e) w);
-        connect = λ h k m b r l un o e f i v y. connect-good h k m b r (live-open t h l) o e i v y;
-        read = λ h n m p i x y l e f. shape-become t h _ (live-open t h l) (of-state t h _ w e) w;
-        write = λ h p i x y new its o e r f g. shape-become t p _ o (of-state t p _ w e) w;
-        shutdown = λ h p i x y rd wr l e. shut-good h p i x y rd wr (live-open t h l) e;
+            shape_give _ s (open_become t h _ s ∙ (q.entries h s (live_open t h l) (rw e (Memᴰ.head refl))).here)
+            (shape_become t h _ (live_open t h l) (of_state t h _ w e) w);
+        connect = λ h k m b r l un o e f i v y. connect_good h k m b r (live_open t h l) o e i v y;
+        read = λ h n m p i x y l e f. shape_become t h _ (live_open t h l) (of_state t h _ w e) w;
+        write = λ h p i x y new its o e r f g. shape_become t p _ o (of_state t p _ w e) w;
+        shutdown = λ h p i x y rd wr l e. shut_good h p i x y rd wr (live_open t h l) e;
         close = λ h l. shape-close_all t _ w;
       }
 
-  pub shape-run : (y : Call) → Shape (run t y).next
-  shape-run y = walk t fit (λ o. Shape o.next) steps y
+  pub shape_run : (y : Call) → Shape (run t y).next
+  shape_run y = walk t fit (λ o. Shape o.next) steps y
 
-pub shape-fresh : (n c : ℕ) → Shape (fresh n c)
-shape-fresh n c = record { good = λ i. subst SlotGood (sym (vacant-all n i)) (closed-good 0 (omega arith)) }
+pub shape_fresh : (n c : ℕ) → Shape (fresh n c)
+shape_fresh n c = record { good = λ i. subst SlotGood (sym (vacant_all n i)) (closed_good 0 (omega arith)) }

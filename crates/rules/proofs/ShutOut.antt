@@ -12,7 +12,7 @@ use lib.ListN.{length}
 use Rattle.rules.proofs.Model.{Table, State, Call, Outcome, fresh, after, run, is_open, is_live, state_of, in_range}
 use Rattle.rules.proofs.Frame.{cons-nil}
 use Rattle.rules.proofs.Wf.{peer_of}
-use Rattle.rules.proofs.Lines.{model, h1, h2, socket, root, listener, pair, some_bytes, queued-bytes}
+use Rattle.rules.proofs.Lines.{model, h1, h2, socket, root, listener, pair, some_bytes, queued_bytes}
 use Rattle.rules.specs.Demand.{sleeps_on, Still, NoLostWake}
 
 -- what a table might answer to a call, and what it might become
@@ -80,41 +80,41 @@ at_call : {f : Implementation} (before : List Call) (call : Call) → f (after (
 unfolding in_range
 at_call before call d = record { slots = 4; capacity = 8; range = refl; before = before; call = call; differs = d }
 
-pub refuses-all-out : (f : Implementation) → RefusesAll f → Differs f
+pub refuses_all_out : (f : Implementation) → RefusesAll f → Differs f
 unfolding model
-refuses-all-out f a = at_call [] socket (λ e. a _ _ (ap (λ o. o.no) e))
+refuses_all_out f a = at_call [] socket (λ e. a _ _ (ap (λ o. o.no) e))
 
-pub always-again-out : (f : Implementation) → AlwaysAgain f → Differs f
+pub always_again_out : (f : Implementation) → AlwaysAgain f → Differs f
 unfolding model
-always-again-out f a = at_call [] socket (λ e. let z : ◌≡◌ {A = ℕ} 8 0 = sym (a _ _) ∙ ap (λ o. o.no) e in omega arith)
+always_again_out f a = at_call [] socket (λ e. let z : ◌≡◌ {A = ℕ} 8 0 = sym (a _ _) ∙ ap (λ o. o.no) e in omega arith)
 
 -- the client has written a byte, and the server reads
-pub moves-nothing-out : (f : Implementation) → MovesNothing f → Differs f
+pub moves_nothing_out : (f : Implementation) → MovesNothing f → Differs f
 unfolding model
-moves-nothing-out f a = at_call (queued-bytes 1) (Call.Read h2 10) (λ e. let z : ◌≡◌ {A = ℕ} 0 1 = ap length (sym (a _ _) ∙ ap (λ o. o.bytes) e) in omega arith)
+moves_nothing_out f a = at_call (queued_bytes 1) (Call.Read h2 10) (λ e. let z : ◌≡◌ {A = ℕ} 0 1 = ap length (sym (a _ _) ∙ ap (λ o. o.bytes) e) in omega arith)
 
 -- a second byte is written: it is not there when the server reads
-pub only-claims-out : (f : Implementation) → OnlyClaims f → Differs f
+pub only_claims_out : (f : Implementation) → OnlyClaims f → Differs f
 unfolding model peer_of
-only-claims-out f a =
-    at_call (queued-bytes 1) (Call.Write h1 (some_bytes 1)) λ e.
+only_claims_out f a =
+    at_call (queued_bytes 1) (Call.Write h1 (some_bytes 1)) λ e.
     let same = sym (a.write _ h1 h2 (some_bytes 1) (record { live = refl; mine = refl; there = refl; holds = cons-nil })) ∙ ap (λ o. o.next) e in
     let z : ◌≡◌ {A = ℕ} 1 2 = ap (λ t. (run t (Call.Read h2 10)).value) same in
     omega arith
 
 -- a write of 1 byte and one of 2
-pub invents-bytes-out : (f : Implementation) → InventsBytes f → Differs f
+pub invents_bytes_out : (f : Implementation) → InventsBytes f → Differs f
 unfolding model
-invents-bytes-out f a = go (ℕ_discrete a.count 1)
+invents_bytes_out f a = go (ℕ_discrete a.count 1)
   where
     go : Dec (a.count ≡ 1) → Differs f
     go (yes n) = at_call pair (Call.Write h1 (some_bytes 2)) (λ e. let z : ◌≡◌ {A = ℕ} 1 2 = sym n ∙ sym (a.write _ _ _ (ap (λ o. o.no) e)) ∙ ap (λ o. o.value) e in omega arith)
     go (no n) = at_call pair (Call.Write h1 (some_bytes 1)) (λ e. n (sym (a.write _ _ _ (ap (λ o. o.no) e)) ∙ ap (λ o. o.value) e))
 
 -- a new socket wakes nobody, a connect two
-pub invents-wakes-out : (f : Implementation) → InventsWakes f → Differs f
+pub invents_wakes_out : (f : Implementation) → InventsWakes f → Differs f
 unfolding model
-invents-wakes-out f a = go (ℕ_discrete a.count 0)
+invents_wakes_out f a = go (ℕ_discrete a.count 0)
   where
     go : Dec (a.count ≡ 0) → Differs f
     go (yes n) = at_call (listener 1 ++ socket ∷ []) (Call.Connect h1 root) (λ e. let z : ◌≡◌ {A = ℕ} 0 2 = sym n ∙ sym (a.wakes _ _ (ap (λ o. o.no) e)) ∙ ap (λ o. length o.wakes) e in omega arith)
@@ -126,9 +126,9 @@ invents-wakes-out f a = go (ℕ_discrete a.count 0)
 abbrev pub NoLostWakeOf : Implementation → Table → Type 0
 NoLostWakeOf f t = (x y : Call) → (f t x).no ≡ 8 → Still (f t y).next x → (f (f t y).next x).no ≢ 8 → Memᴰ (sleeps_on x) (f t y).wakes
 
-pub of-run : (t : Table) → NoLostWakeOf run t → NoLostWake t
-of-run t a = a
+pub of_run : (t : Table) → NoLostWakeOf run t → NoLostWake t
+of_run t a = a
 
 -- "demand 3 alone would let it pass": a sleeper that never is to be woken
-pub again-passes : (f : Implementation) → AlwaysAgain f → (t : Table) → NoLostWakeOf f t
-again-passes f a t x y b s d = absurd (d (a (f t y).next x))
+pub again_passes : (f : Implementation) → AlwaysAgain f → (t : Table) → NoLostWakeOf f t
+again_passes f a t x y b s d = absurd (d (a (f t y).next x))

@@ -10,7 +10,7 @@ use lib.IntN.{ℤ}
 use borrow.Author.Tests.{leb-false, ltb-false, not-false}
 use Rattle.laws.proofs.Tests.{or_right}
 use Rattle.rules.proofs.Model.{Table, State, Inbox, Call, Outcome, Policy, refuse, refuse_if, answer, at, handle_at, is_open, is_live, state_of, become, give, enter, is_nil, all_items, append, room, is_full, holds, holder, no_slot, free_slot, new_handle, ready, connected, reach, drained, drain, send, do_socket, do_bind, do_listen, do_accept, do_connect, do_send, do_shutdown, do_close, on_live, on_name, run}
-use Rattle.rules.proofs.Frame.{open_at, found-used, unbound-not-listening, free-unused, free-young}
+use Rattle.rules.proofs.Frame.{open_at, found_used, unbound_not_listening, free_unused, free_young}
 
 -- P of each outcome, with what is known where the call comes to it
 pub record Steps (t : Table) (P : Outcome → Type 0) : Type 0 where
@@ -54,53 +54,53 @@ module _ (t : Table) (fit : length t.slots ≤ 1024) (P : Outcome → Type 0) (w
   unfolding no_slot
   free e = leb-false _ _ e
 
-  walk-socket : (d y p : ℤ) → P (do_socket t d y p)
+  walk_socket : (d y p : ℤ) → P (do_socket t d y p)
   unfolding do_socket
-  walk-socket d y p = guard _ 12 _ λ _. guard _ 14 _ λ _. guard _ 15 _ λ _. guard _ 16 _ λ e. w.socket (free e) (free-unused t e) (free-young t e)
+  walk_socket d y p = guard _ 12 _ λ _. guard _ 14 _ λ _. guard _ 15 _ λ _. guard _ 16 _ λ e. w.socket (free e) (free_unused t e) (free_young t e)
 
-  walk-send : (p : ℕ) → is_open t p ≡ true → (new its : List ℕ) (σ : State) → state_of t p ≡ σ → P (send t p new its σ)
+  walk_send : (p : ℕ) → is_open t p ≡ true → (new its : List ℕ) (σ : State) → state_of t p ≡ σ → P (send t p new its σ)
   unfolding send
-  walk-send p a new its State.Unbound e = w.refused 19
-  walk-send p a new its (State.Bound m) e = w.refused 19
-  walk-send p a new its (State.Listening m b q) e = w.refused 19
-  walk-send p a new its (State.Connected h i x y) e = guard _ 8 _ λ r. guard _ 2 _ λ f. guard _ 11 _ λ g. w.write h p i x y new its a e (leb-false _ _ r) f g
+  walk_send p a new its State.Unbound e = w.refused 19
+  walk_send p a new its (State.Bound m) e = w.refused 19
+  walk_send p a new its (State.Listening m b q) e = w.refused 19
+  walk_send p a new its (State.Connected h i x y) e = guard _ 8 _ λ r. guard _ 2 _ λ f. guard _ 11 _ λ g. w.write h p i x y new its a e (leb-false _ _ r) f g
 
   walk-do_send : (new its : List ℕ) (σ : State) → P (do_send t new its σ)
   unfolding do_send
   walk-do_send new its State.Unbound = w.refused 9
   walk-do_send new its (State.Bound m) = w.refused 9
   walk-do_send new its (State.Listening m b q) = w.refused 9
-  walk-do_send new its (State.Connected p i x y) = guard _ 10 _ λ e. walk-send p (not-false _ (or_right y _ e)) new its (state_of t p) refl
+  walk-do_send new its (State.Connected p i x y) = guard _ 10 _ λ e. walk_send p (not-false _ (or_right y _ e)) new its (state_of t p) refl
 
   module _ (h : ℕ) (l : is_live t h ≡ true) where
-    walk-bind : (n : List ℕ) → is_nil n ≡ false → length n ≤ 255 → (σ : State) → state_of t h ≡ σ → P (do_bind t h n σ)
+    walk_bind : (n : List ℕ) → is_nil n ≡ false → length n ≤ 255 → (σ : State) → state_of t h ≡ σ → P (do_bind t h n σ)
     unfolding do_bind
-    walk-bind n a b State.Unbound e = guard _ 3 _ λ f. w.bind h n l e a b f
-    walk-bind n a b (State.Bound m) e = w.refused 2
-    walk-bind n a b (State.Listening m k q) e = w.refused 2
-    walk-bind n a b (State.Connected p i x y) e = w.refused 2
+    walk_bind n a b State.Unbound e = guard _ 3 _ λ f. w.bind h n l e a b f
+    walk_bind n a b (State.Bound m) e = w.refused 2
+    walk_bind n a b (State.Listening m k q) e = w.refused 2
+    walk_bind n a b (State.Connected p i x y) e = w.refused 2
 
-    walk-listen : (k : ℕ) (σ : State) → state_of t h ≡ σ → P (do_listen t h k σ)
+    walk_listen : (k : ℕ) (σ : State) → state_of t h ≡ σ → P (do_listen t h k σ)
     unfolding do_listen
-    walk-listen k State.Unbound e = w.refused 4
-    walk-listen k (State.Bound m) e = w.listen h k m l e
-    walk-listen k (State.Listening m b q) e = w.again h k m b q l e
-    walk-listen k (State.Connected p i x y) e = w.refused 2
+    walk_listen k State.Unbound e = w.refused 4
+    walk_listen k (State.Bound m) e = w.listen h k m l e
+    walk_listen k (State.Listening m b q) e = w.again h k m b q l e
+    walk_listen k (State.Connected p i x y) e = w.refused 2
 
-    walk-accept : (σ : State) → state_of t h ≡ σ → P (do_accept t h σ)
+    walk_accept : (σ : State) → state_of t h ≡ σ → P (do_accept t h σ)
     unfolding do_accept
-    walk-accept State.Unbound e = w.refused 2
-    walk-accept (State.Bound m) e = w.refused 2
-    walk-accept (State.Listening m b []) e = w.refused 8
-    walk-accept (State.Listening m b (s ∷ q)) e = w.accept h m b s q l e
-    walk-accept (State.Connected p i x y) e = w.refused 2
+    walk_accept State.Unbound e = w.refused 2
+    walk_accept (State.Bound m) e = w.refused 2
+    walk_accept (State.Listening m b []) e = w.refused 8
+    walk_accept (State.Listening m b (s ∷ q)) e = w.accept h m b s q l e
+    walk_accept (State.Connected p i x y) e = w.refused 2
 
-    walk-read : (k : ℕ) (most : Policy) (σ : State) → state_of t h ≡ σ → P (drain t h k most σ)
+    walk_read : (k : ℕ) (most : Policy) (σ : State) → state_of t h ≡ σ → P (drain t h k most σ)
     unfolding drain
-    walk-read k most State.Unbound e = w.refused 9
-    walk-read k most (State.Bound m) e = w.refused 9
-    walk-read k most (State.Listening m b q) e = w.refused 9
-    walk-read k most (State.Connected p i x y) e = both (is_nil i.bytes) (both' (x || not (is_open t p)) (w.unchanged 0) (w.refused 8)) (λ n. w.read h k most p i x y l e n)
+    walk_read k most State.Unbound e = w.refused 9
+    walk_read k most (State.Bound m) e = w.refused 9
+    walk_read k most (State.Listening m b q) e = w.refused 9
+    walk_read k most (State.Connected p i x y) e = both (is_nil i.bytes) (both' (x || not (is_open t p)) (w.unchanged 0) (w.refused 8)) (λ n. w.read h k most p i x y l e n)
       where
         both : (b : Bool) {o o' : Outcome} → P o → (b ≡ false → P o') → P (cond b o o')
         both true f g = f
@@ -110,42 +110,42 @@ module _ (t : Table) (fit : length t.slots ≤ 1024) (P : Outcome → Type 0) (w
         both' true f g = f
         both' false f g = g
 
-    walk-shutdown : (rd wr : Bool) (σ : State) → state_of t h ≡ σ → P (do_shutdown t h rd wr σ)
+    walk_shutdown : (rd wr : Bool) (σ : State) → state_of t h ≡ σ → P (do_shutdown t h rd wr σ)
     unfolding do_shutdown
-    walk-shutdown rd wr State.Unbound e = w.refused 9
-    walk-shutdown rd wr (State.Bound m) e = w.refused 9
-    walk-shutdown rd wr (State.Listening m b q) e = w.refused 9
-    walk-shutdown rd wr (State.Connected p i x y) e = w.shutdown h p i x y rd wr l e
+    walk_shutdown rd wr State.Unbound e = w.refused 9
+    walk_shutdown rd wr (State.Bound m) e = w.refused 9
+    walk_shutdown rd wr (State.Listening m b q) e = w.refused 9
+    walk_shutdown rd wr (State.Connected p i x y) e = w.shutdown h p i x y rd wr l e
 
     module _ (un : state_of t h ≡ State.Unbound) (n : List ℕ) where
-      walk-found : (σ : State) → (at t (holder t n)).state ≡ σ → P (reach t h (handle_at t (holder t n)) σ)
+      walk_found : (σ : State) → (at t (holder t n)).state ≡ σ → P (reach t h (handle_at t (holder t n)) σ)
       unfolding reach state_of is_full
-      walk-found State.Unbound e = w.refused 7
-      walk-found (State.Bound m) e = w.refused 7
-      walk-found (State.Connected p i x y) e = w.refused 7
-      walk-found (State.Listening m b q) e =
-          let a = open_at t (holder t n) fit (found-used t n (State.Listening m b q) e (λ z. unbound-not-listening (sym z))) in
+      walk_found State.Unbound e = w.refused 7
+      walk_found (State.Bound m) e = w.refused 7
+      walk_found (State.Connected p i x y) e = w.refused 7
+      walk_found (State.Listening m b q) e =
+          let a = open_at t (holder t n) fit (found_used t n (State.Listening m b q) e (λ z. unbound_not_listening (sym z))) in
           guard _ 8 _ λ f. guard _ 16 _ λ g.
-          w.connect h (handle_at t (holder t n)) m b q l un a.1 (ap (λ k. (at t k).state) a.0 ∙ e) (leb-false _ _ f) (free g) (free-unused t g) (free-young t g)
+          w.connect h (handle_at t (holder t n)) m b q l un a.1 (ap (λ k. (at t k).state) a.0 ∙ e) (leb-false _ _ f) (free g) (free_unused t g) (free_young t g)
 
-    walk-connect : (n : List ℕ) (σ : State) → state_of t h ≡ σ → P (do_connect t h n σ)
+    walk_connect : (n : List ℕ) (σ : State) → state_of t h ≡ σ → P (do_connect t h n σ)
     unfolding do_connect
-    walk-connect n State.Unbound e = walk-found e n (at t (holder t n)).state refl
-    walk-connect n (State.Bound m) e = w.refused 2
-    walk-connect n (State.Listening m b q) e = w.refused 6
-    walk-connect n (State.Connected p i x y) e = w.refused 5
+    walk_connect n State.Unbound e = walk_found e n (at t (holder t n)).state refl
+    walk_connect n (State.Bound m) e = w.refused 2
+    walk_connect n (State.Listening m b q) e = w.refused 6
+    walk_connect n (State.Connected p i x y) e = w.refused 5
 
   pub walk : (y : Call) → P (run t y)
   unfolding run
-  walk (Call.Socket d y p) = walk-socket d y p
-  walk (Call.Bind h n) = on-name h n _ λ l a b. walk-bind h l n a b (state_of t h) refl
-  walk (Call.Listen h k) = on-live h _ λ l. walk-listen h l k (state_of t h) refl
-  walk (Call.Accept h) = on-live h _ λ l. walk-accept h l (state_of t h) refl
-  walk (Call.Connect h n) = on-name h n _ λ l a b. walk-connect h l n (state_of t h) refl
-  walk (Call.Read h k) = on-live h _ λ l. walk-read h l k Policy.Drop (state_of t h) refl
-  walk (Call.Recvmsg h k m) = on-live h _ λ l. guard _ 2 _ λ _. walk-read h l k (Policy.Take m) (state_of t h) refl
+  walk (Call.Socket d y p) = walk_socket d y p
+  walk (Call.Bind h n) = on-name h n _ λ l a b. walk_bind h l n a b (state_of t h) refl
+  walk (Call.Listen h k) = on-live h _ λ l. walk_listen h l k (state_of t h) refl
+  walk (Call.Accept h) = on-live h _ λ l. walk_accept h l (state_of t h) refl
+  walk (Call.Connect h n) = on-name h n _ λ l a b. walk_connect h l n (state_of t h) refl
+  walk (Call.Read h k) = on-live h _ λ l. walk_read h l k Policy.Drop (state_of t h) refl
+  walk (Call.Recvmsg h k m) = on-live h _ λ l. guard _ 2 _ λ _. walk_read h l k (Policy.Take m) (state_of t h) refl
   walk (Call.Write h b) = on-live h _ λ l. walk-do_send b [] (state_of t h)
   walk (Call.Sendmsg h b i) = on-live h _ λ l. walk-do_send b i (state_of t h)
-  walk (Call.Shutdown h how) = on-live h _ λ l. guard _ 2 _ λ _. walk-shutdown h l _ _ (state_of t h) refl
+  walk (Call.Shutdown h how) = on-live h _ λ l. guard _ 2 _ λ _. walk_shutdown h l _ _ (state_of t h) refl
   walk (Call.Close h) = on-live h _ λ l. w.close h l
   walk (Call.Readiness h) = on-live h _ λ l. w.unchanged (ready t (state_of t h))

@@ -11,7 +11,7 @@ use lib.Dec.{eqb}
 use borrow.Author.Tests.{eq-eqb, eqb-true}
 use Rattle.laws.proofs.Tests.{and_left, and_right}
 use Rattle.rules.proofs.Model.{Table, State, slot_of, handle, handle_at, at, is_open, state_of, become, give, enter, leave, same, close_all, has_name, holds, holder, nothing}
-use Rattle.rules.proofs.Frame.{field_put, open-become, open-give, open-used, open-handle, open-same, open-leave, state-become, enter-open, first-least, slot-handle, size-become, gen-become, size-enter, at-enter, gen-enter, enter-new, state-become-same, some_inj, none-some}
+use Rattle.rules.proofs.Frame.{field_put, open_become, open_give, open_used, open_handle, open_same, open_leave, state_become, enter_open, first_least, slot_handle, size_become, gen_become, size_enter, at_enter, gen_enter, enter_new, state_become_same, some_inj, none_some}
 
 -- the peer, and the name, of a state
 unfoldable pub peer_of : State → Option ℕ
@@ -47,8 +47,8 @@ pub record Steady (t u : Table) : Type 0 where
   pub peers : (g : ℕ) → is_open u g ≡ true → peer_of (state_of u g) ≡ peer_of (state_of t g)
   pub names : (g : ℕ) → is_open u g ≡ true → name_of (state_of u g) ≡ name_of (state_of t g)
 
-pub wf-steady : {t u : Table} → Steady t u → WellFormed t → WellFormed u
-wf-steady {t} {u} s w =
+pub wf_steady : {t u : Table} → Steady t u → WellFormed t → WellFormed u
+wf_steady {t} {u} s w =
     record {
       sized = rw s.size w.sized;
       paired = λ g p o e q. s.peers p q ∙ w.paired g p (s.opens g o) (sym (s.peers g o) ∙ e) (s.opens p q);
@@ -67,56 +67,56 @@ steady_then a b =
       names = λ g o. b.names g o ∙ a.names g (b.opens g o);
     }
 
-pub steady-refl : {t : Table} → Steady t t
-steady-refl = record { size = refl; gens = λ i. refl; opens = λ g o. o; peers = λ g o. refl; names = λ g o. refl }
+pub steady_refl : {t : Table} → Steady t t
+steady_refl = record { size = refl; gens = λ i. refl; opens = λ g o. o; peers = λ g o. refl; names = λ g o. refl }
 
 -- a new state with the old peer and the old name
-pub steady-become : (t : Table) (h : ℕ) (σ : State) → peer_of σ ≡ peer_of (state_of t h) → name_of σ ≡ name_of (state_of t h) → Steady t (become t h σ)
+pub steady_become : (t : Table) (h : ℕ) (σ : State) → peer_of σ ≡ peer_of (state_of t h) → name_of σ ≡ name_of (state_of t h) → Steady t (become t h σ)
 unfolding become state_of
-steady-become t h σ p n =
+steady_become t h σ p n =
     record {
       size = length-set t.slots (slot_of h) _;
       gens = λ i. field_put (λ s. s.gen) t (slot_of h) _ i refl;
-      opens = λ g o. sym (open-become t h σ g) ∙ o;
+      opens = λ g o. sym (open_become t h σ g) ∙ o;
       peers = λ g o. field_put (λ s. peer_of s.state) t (slot_of h) _ (slot_of g) p;
       names = λ g o. field_put (λ s. name_of s.state) t (slot_of h) _ (slot_of g) n;
     }
 
-pub steady-give : (t : Table) (h : ℕ) → Steady t (give t h)
+pub steady_give : (t : Table) (h : ℕ) → Steady t (give t h)
 unfolding give state_of
-steady-give t h =
+steady_give t h =
     record {
       size = length-set t.slots (slot_of h) _;
       gens = λ i. field_put (λ s. s.gen) t (slot_of h) _ i refl;
-      opens = λ g o. sym (open-give t h g) ∙ o;
+      opens = λ g o. sym (open_give t h g) ∙ o;
       peers = λ g o. field_put (λ s. peer_of s.state) t (slot_of h) _ (slot_of g) refl;
       names = λ g o. field_put (λ s. name_of s.state) t (slot_of h) _ (slot_of g) refl;
     }
 
-steady-leave : (t : Table) (h : ℕ) → Steady t (leave t h)
+steady_leave : (t : Table) (h : ℕ) → Steady t (leave t h)
 unfolding leave
-steady-leave t h =
+steady_leave t h =
     record {
       size = length-set t.slots (slot_of h) _;
       gens = λ i. field_put (λ s. s.gen) t (slot_of h) _ i refl;
-      opens = λ g o. (open-leave t h g o).0;
-      peers = λ g o. ap peer_of (open-leave t h g o).1;
-      names = λ g o. ap name_of (open-leave t h g o).1;
+      opens = λ g o. (open_leave t h g o).0;
+      peers = λ g o. ap peer_of (open_leave t h g o).1;
+      names = λ g o. ap name_of (open_leave t h g o).1;
     }
 
 pub steady-close_all : (t : Table) (hs : List ℕ) → Steady t (close_all t hs).next
 unfolding close_all
-steady-close_all t [] = steady-refl
-steady-close_all t (h ∷ hs) = steady_then (steady-leave t h) (steady-close_all (leave t h) hs)
+steady-close_all t [] = steady_refl
+steady-close_all t (h ∷ hs) = steady_then (steady_leave t h) (steady-close_all (leave t h) hs)
 
 -- ── bind ──
 
-pub same-eq : (xs ys : List ℕ) → same xs ys ≡ true → xs ≡ ys
+pub same_eq : (xs ys : List ℕ) → same xs ys ≡ true → xs ≡ ys
 unfolding same
-same-eq [] [] e = refl
-same-eq [] (y ∷ ys) e = absurd (false≢true e)
-same-eq (x ∷ xs) [] e = absurd (false≢true e)
-same-eq (x ∷ xs) (y ∷ ys) e = ap₂ ◌∷◌ (eqb-true x y (and_left (eqb x y) _ e)) (same-eq xs ys (and_right (eqb x y) _ e))
+same_eq [] [] e = refl
+same_eq [] (y ∷ ys) e = absurd (false≢true e)
+same_eq (x ∷ xs) [] e = absurd (false≢true e)
+same_eq (x ∷ xs) (y ∷ ys) e = ap₂ ◌∷◌ (eqb-true x y (and_left (eqb x y) _ e)) (same_eq xs ys (and_right (eqb x y) _ e))
 
 pub same_refl : (xs : List ℕ) → same xs xs ≡ true
 unfolding same
@@ -126,54 +126,54 @@ same_refl (x ∷ xs) = rw (eq-eqb x x refl) (same_refl xs)
 pub has-name : (n : List ℕ) (σ : State) → has_name n σ ≡ true → name_of σ ≡ some n
 unfolding has_name name_of
 has-name n State.Unbound e = absurd (false≢true e)
-has-name n (State.Bound m) e = ap some (same-eq m n e)
-has-name n (State.Listening m b q) e = ap some (same-eq m n e)
+has-name n (State.Bound m) e = ap some (same_eq m n e)
+has-name n (State.Listening m b q) e = ap some (same_eq m n e)
 has-name n (State.Connected p i x y) e = absurd (false≢true e)
 
-pub name-has : (n : List ℕ) (σ : State) → name_of σ ≡ some n → has_name n σ ≡ true
+pub name_has : (n : List ℕ) (σ : State) → name_of σ ≡ some n → has_name n σ ≡ true
 unfolding has_name name_of
-name-has n State.Unbound e = absurd (none-some e)
-name-has n (State.Bound m) e = rw (some_inj e) (same_refl n)
-name-has n (State.Listening m b q) e = rw (some_inj e) (same_refl n)
-name-has n (State.Connected p i x y) e = absurd (none-some e)
+name_has n State.Unbound e = absurd (none_some e)
+name_has n (State.Bound m) e = rw (some_inj e) (same_refl n)
+name_has n (State.Listening m b q) e = rw (some_inj e) (same_refl n)
+name_has n (State.Connected p i x y) e = absurd (none_some e)
 
 -- a socket that has the name is found
 pub found : (t : Table) (n : List ℕ) (g : ℕ) → is_open t g ≡ true → name_of (state_of t g) ≡ some n → holds n (at t (holder t n)) ≡ true
 unfolding holder holds state_of has_name
-found t n g o e = first-least (holds n) t.slots (slot_of g) (rw (open-used t g o, name-has n (state_of t g) e) refl) refl
+found t n g o e = first_least (holds n) t.slots (slot_of g) (rw (open_used t g o, name_has n (state_of t g) e) refl) refl
 
 module _ (t : Table) (h : ℕ) (n : List ℕ) (o : is_open t h ≡ true) (un : state_of t h ≡ State.Unbound) (f : holds n (at t (holder t n)) ≡ false) (w : WellFormed t) where
   -- an open socket after the bind is the one that was bound, or was there before
-  bound-or-old : (g : ℕ) → is_open (become t h (State.Bound n)) g ≡ true → ((g ≡ h) × (state_of (become t h (State.Bound n)) g ≡ State.Bound n)) ⊎ (state_of (become t h (State.Bound n)) g ≡ state_of t g)
-  bound-or-old g a =
-      ⊎_elim (λ e. inl (open-same t g h (sym (open-become t h (State.Bound n) g) ∙ a) o e.0, e.1)) (λ e. inr e) (state-become t h (State.Bound n) g)
+  bound_or_old : (g : ℕ) → is_open (become t h (State.Bound n)) g ≡ true → ((g ≡ h) × (state_of (become t h (State.Bound n)) g ≡ State.Bound n)) ⊎ (state_of (become t h (State.Bound n)) g ≡ state_of t g)
+  bound_or_old g a =
+      ⊎_elim (λ e. inl (open_same t g h (sym (open_become t h (State.Bound n) g) ∙ a) o e.0, e.1)) (λ e. inr e) (state_become t h (State.Bound n) g)
 
   clash : (g : ℕ) (m : List ℕ) → is_open t g ≡ true → name_of (state_of t g) ≡ some m → name_of (State.Bound n) ≡ some m → ⊥
   unfolding name_of
   clash g m a e e' = false≢true (sym f ∙ found t n g a (e ∙ sym e'))
 
-  pub wf-bind : WellFormed (become t h (State.Bound n))
+  pub wf_bind : WellFormed (become t h (State.Bound n))
   unfolding state_of peer_of become
-  wf-bind =
+  wf_bind =
       let u : Table = become t h (State.Bound n) in
       let peers : (g : ℕ) → peer_of (state_of u g) ≡ peer_of (state_of t g) = λ g. field_put (λ s. peer_of s.state) t (slot_of h) _ (slot_of g) (rw un refl) in
-      let opens : (g : ℕ) → is_open u g ≡ true → is_open t g ≡ true = λ g z. sym (open-become t h (State.Bound n) g) ∙ z in
+      let opens : (g : ℕ) → is_open u g ≡ true → is_open t g ≡ true = λ g z. sym (open_become t h (State.Bound n) g) ∙ z in
       record {
-        sized = rw (size-become t h (State.Bound n)) w.sized;
+        sized = rw (size_become t h (State.Bound n)) w.sized;
         paired = λ g p a e q. peers p ∙ w.paired g p (opens g a) (sym (peers g) ∙ e) (opens p q);
         apart = λ g a e. w.apart g (opens g a) (sym (peers g) ∙ e);
-        past = λ g p a e. rw (gen-become t h (State.Bound n)) (w.past g p (opens g a) (sym (peers g) ∙ e));
+        past = λ g p a e. rw (gen_become t h (State.Bound n)) (w.past g p (opens g a) (sym (peers g) ∙ e));
         single = λ g g' m a a' e e'.
             ⊎_elim
             (λ z. ⊎_elim
             (λ z'. z.0 ∙ sym z'.0)
             (λ z'. absurd (clash g' m (opens g' a') (sym (ap name_of z') ∙ e') (sym (ap name_of z.1) ∙ e)))
-            (bound-or-old g' a'))
+            (bound_or_old g' a'))
             (λ z. ⊎_elim
             (λ z'. absurd (clash g m (opens g a) (sym (ap name_of z) ∙ e) (sym (ap name_of z'.1) ∙ e')))
             (λ z'. w.single g g' m (opens g a) (opens g' a') (sym (ap name_of z) ∙ e) (sym (ap name_of z') ∙ e'))
-            (bound-or-old g' a'))
-            (bound-or-old g a);
+            (bound_or_old g' a'))
+            (bound_or_old g a);
       }
 
 -- ── a new socket ──
@@ -184,35 +184,35 @@ module _ (t : Table) (w : WellFormed t) (i : ℕ) where
   not_yet g p a e z s = omega (arith, rw s at (w.past g p a e))
 
 module _ (t : Table) (w : WellFormed t) (i : ℕ) where
-  pub wf-enter : WellFormed (enter t i true State.Unbound)
+  pub wf_enter : WellFormed (enter t i true State.Unbound)
   unfolding peer_of name_of
-  wf-enter =
+  wf_enter =
       let u : Table = enter t i true State.Unbound in
       record {
-        sized = rw (size-enter t i true State.Unbound) w.sized;
+        sized = rw (size_enter t i true State.Unbound) w.sized;
         paired = λ g p a e q.
             ⊎_elim
-            (λ z. absurd (none-some (sym (ap peer_of z.2) ∙ e)))
+            (λ z. absurd (none_some (sym (ap peer_of z.2) ∙ e)))
             (λ z. ⊎_elim
             (λ y. absurd (not_yet t w i g p z.0 (sym (ap peer_of z.1) ∙ e) y.0 y.1))
             (λ y. ap peer_of y.1 ∙ w.paired g p z.0 (sym (ap peer_of z.1) ∙ e) y.0)
-            (at-enter t i true State.Unbound p q))
-            (at-enter t i true State.Unbound g a);
+            (at_enter t i true State.Unbound p q))
+            (at_enter t i true State.Unbound g a);
         apart = λ g a e.
-            ⊎_elim (λ z. none-some (sym (ap peer_of z.2) ∙ e)) (λ z. w.apart g z.0 (sym (ap peer_of z.1) ∙ e)) (at-enter t i true State.Unbound g a);
+            ⊎_elim (λ z. none_some (sym (ap peer_of z.2) ∙ e)) (λ z. w.apart g z.0 (sym (ap peer_of z.1) ∙ e)) (at_enter t i true State.Unbound g a);
         past = λ g p a e.
             ⊎_elim
-            (λ z. absurd (none-some (sym (ap peer_of z.2) ∙ e)))
-            (λ z. omega (arith, gen-enter t i true State.Unbound (slot_of p), w.past g p z.0 (sym (ap peer_of z.1) ∙ e)))
-            (at-enter t i true State.Unbound g a);
+            (λ z. absurd (none_some (sym (ap peer_of z.2) ∙ e)))
+            (λ z. omega (arith, gen_enter t i true State.Unbound (slot_of p), w.past g p z.0 (sym (ap peer_of z.1) ∙ e)))
+            (at_enter t i true State.Unbound g a);
         single = λ g g' m a a' e e'.
             ⊎_elim
-            (λ z. absurd (none-some (sym (ap name_of z.2) ∙ e)))
+            (λ z. absurd (none_some (sym (ap name_of z.2) ∙ e)))
             (λ z. ⊎_elim
-            (λ z'. absurd (none-some (sym (ap name_of z'.2) ∙ e')))
+            (λ z'. absurd (none_some (sym (ap name_of z'.2) ∙ e')))
             (λ z'. w.single g g' m z.0 z'.0 (sym (ap name_of z.1) ∙ e) (sym (ap name_of z'.1) ∙ e'))
-            (at-enter t i true State.Unbound g' a'))
-            (at-enter t i true State.Unbound g a);
+            (at_enter t i true State.Unbound g' a'))
+            (at_enter t i true State.Unbound g a);
       }
 
 -- ── connect ──
@@ -242,83 +242,83 @@ module _ (t : Table) (w : WellFormed t) (i h : ℕ) (l : i < length t.slots) (v 
   pub kin : (g : ℕ) → is_open joined g ≡ true → Kin g
   unfolding joined
   kin g a =
-      let b : is_open t₁ g ≡ true = sym (open-become t₁ h σ₂ g) ∙ a in
+      let b : is_open t₁ g ≡ true = sym (open_become t₁ h σ₂ g) ∙ a in
       ⊎_elim
-      (λ e. mine (open-same t₁ g h b (enter-open t i false σ₁ h v o).0 e.0) e.1)
+      (λ e. mine (open_same t₁ g h b (enter_open t i false σ₁ h v o).0 e.0) e.1)
       (λ e. ⊎_elim
       (λ z. server z.0 z.1 (e ∙ z.2))
       (λ z. old z.0 (e ∙ z.1))
-      (at-enter t i false σ₁ g b))
-      (state-become t₁ h σ₂ g)
+      (at_enter t i false σ₁ g b))
+      (state_become t₁ h σ₂ g)
 
-  pub others-stay : (l : ℕ) → is_open t l ≡ true → state_of t l ≢ State.Unbound → state_of joined l ≡ state_of t l
+  pub others_stay : (l : ℕ) → is_open t l ≡ true → state_of t l ≢ State.Unbound → state_of joined l ≡ state_of t l
   unfolding joined
-  others-stay l ol d =
+  others_stay l ol d =
       ⊎_elim
-      (λ z. absurd (d (ap (state_of t) (open-same t l h ol o z.0) ∙ un)))
-      (λ z. z ∙ (enter-open t i false σ₁ l v ol).1)
-      (state-become t₁ h σ₂ l)
+      (λ z. absurd (d (ap (state_of t) (open_same t l h ol o z.0) ∙ un)))
+      (λ z. z ∙ (enter_open t i false σ₁ l v ol).1)
+      (state_become t₁ h σ₂ l)
 
-  pub of-mine : peer_of (state_of joined h) ≡ some s'
+  pub of_mine : peer_of (state_of joined h) ≡ some s'
   unfolding joined peer_of
-  of-mine = ap peer_of (state-become-same t₁ h σ₂ (enter-open t i false σ₁ h v o).0)
+  of_mine = ap peer_of (state_become_same t₁ h σ₂ (enter_open t i false σ₁ h v o).0)
 
-  pub of-server : peer_of (state_of joined s') ≡ some h
+  pub of_server : peer_of (state_of joined s') ≡ some h
   unfolding joined peer_of
-  of-server =
+  of_server =
       ⊎_elim
-      (λ e. absurd (false≢true (sym v ∙ ap (λ k. (at t k).in_use) (sym (slot-handle (suc (at t i).gen) i (omega (arith, w.sized))) ∙ e.0) ∙ open-used t h o)))
-      (λ e. ap peer_of (e ∙ (enter-new t i false σ₁ w.sized l).1))
-      (state-become t₁ h σ₂ s')
+      (λ e. absurd (false≢true (sym v ∙ ap (λ k. (at t k).in_use) (sym (slot_handle (suc (at t i).gen) i (omega (arith, w.sized))) ∙ e.0) ∙ open_used t h o)))
+      (λ e. ap peer_of (e ∙ (enter_new t i false σ₁ w.sized l).1))
+      (state_become t₁ h σ₂ s')
 
-  gens-up : (j : ℕ) → (at t j).gen ≤ (at joined j).gen
+  gens_up : (j : ℕ) → (at t j).gen ≤ (at joined j).gen
   unfolding joined
-  gens-up j = rw (gen-become t₁ h σ₂ j) (gen-enter t i false σ₁ j)
+  gens_up j = rw (gen_become t₁ h σ₂ j) (gen_enter t i false σ₁ j)
 
-  open-server : is_open joined s' ≡ true
+  open_server : is_open joined s' ≡ true
   unfolding joined
-  open-server = open-become t₁ h σ₂ s' ∙ (enter-new t i false σ₁ w.sized l).0
+  open_server = open_become t₁ h σ₂ s' ∙ (enter_new t i false σ₁ w.sized l).0
 
-  paired-kin : (g p : ℕ) → Kin g → Kin p → peer_of (state_of joined g) ≡ some p → peer_of (state_of joined p) ≡ some g
+  paired_kin : (g p : ℕ) → Kin g → Kin p → peer_of (state_of joined g) ≡ some p → peer_of (state_of joined p) ≡ some g
   unfolding peer_of
-  paired-kin g p (server a s b) k e = cc of-mine
-  paired-kin g p (mine a b) k e = cc of-server
-  paired-kin g p (old a b) (server c s d) e = absurd (not_yet t w i g p a (sym (ap peer_of b) ∙ e) c s)
-  paired-kin g p (old a b) (mine c d) e = absurd (none-some (sym (ap peer_of un) ∙ sym (ap (λ z. peer_of (state_of t z)) c) ∙ w.paired g p a (sym (ap peer_of b) ∙ e) (ap (is_open t) c ∙ o)))
-  paired-kin g p (old a b) (old c d) e = ap peer_of d ∙ w.paired g p a (sym (ap peer_of b) ∙ e) c
+  paired_kin g p (server a s b) k e = cc of_mine
+  paired_kin g p (mine a b) k e = cc of_server
+  paired_kin g p (old a b) (server c s d) e = absurd (not_yet t w i g p a (sym (ap peer_of b) ∙ e) c s)
+  paired_kin g p (old a b) (mine c d) e = absurd (none_some (sym (ap peer_of un) ∙ sym (ap (λ z. peer_of (state_of t z)) c) ∙ w.paired g p a (sym (ap peer_of b) ∙ e) (ap (is_open t) c ∙ o)))
+  paired_kin g p (old a b) (old c d) e = ap peer_of d ∙ w.paired g p a (sym (ap peer_of b) ∙ e) c
 
   not_new : h ≡ s' → ⊥
   not_new e =
       false≢true
-      (sym v ∙ ap (λ k. (at t k).in_use) (sym (slot-handle (suc (at t i).gen) i (omega (arith, w.sized))) ∙ ap slot_of (sym e)) ∙ open-used t h o)
+      (sym v ∙ ap (λ k. (at t k).in_use) (sym (slot_handle (suc (at t i).gen) i (omega (arith, w.sized))) ∙ ap slot_of (sym e)) ∙ open_used t h o)
 
-  apart-kin : (g : ℕ) → Kin g → peer_of (state_of joined g) ≡ some g → ⊥
+  apart_kin : (g : ℕ) → Kin g → peer_of (state_of joined g) ≡ some g → ⊥
   unfolding peer_of
-  apart-kin g (server a s b) e = not_new (some_inj (sym (ap peer_of b) ∙ e) ∙ a)
-  apart-kin g (mine a b) e = not_new (sym (some_inj (sym (ap peer_of b) ∙ e) ∙ a))
-  apart-kin g (old a b) e = w.apart g a (sym (ap peer_of b) ∙ e)
+  apart_kin g (server a s b) e = not_new (some_inj (sym (ap peer_of b) ∙ e) ∙ a)
+  apart_kin g (mine a b) e = not_new (sym (some_inj (sym (ap peer_of b) ∙ e) ∙ a))
+  apart_kin g (old a b) e = w.apart g a (sym (ap peer_of b) ∙ e)
 
-  past-kin : (g p : ℕ) → Kin g → peer_of (state_of joined g) ≡ some p → p ≤ handle_at joined (slot_of p)
+  past_kin : (g p : ℕ) → Kin g → peer_of (state_of joined g) ≡ some p → p ≤ handle_at joined (slot_of p)
   unfolding peer_of
-  past-kin g p (server a s b) e = let z : h ≡ p = some_inj (sym (ap peer_of b) ∙ e) in rw (← z) (omega (arith, gens-up (slot_of h), open-handle t h o))
-  past-kin g p (mine a b) e = let z : s' ≡ p = some_inj (sym (ap peer_of b) ∙ e) in rw (← z) (omega (arith, open-handle joined s' open-server))
-  past-kin g p (old a b) e = omega (arith, gens-up (slot_of p), w.past g p a (sym (ap peer_of b) ∙ e))
+  past_kin g p (server a s b) e = let z : h ≡ p = some_inj (sym (ap peer_of b) ∙ e) in rw (← z) (omega (arith, gens_up (slot_of h), open_handle t h o))
+  past_kin g p (mine a b) e = let z : s' ≡ p = some_inj (sym (ap peer_of b) ∙ e) in rw (← z) (omega (arith, open_handle joined s' open_server))
+  past_kin g p (old a b) e = omega (arith, gens_up (slot_of p), w.past g p a (sym (ap peer_of b) ∙ e))
 
-  single-kin : (g g' : ℕ) (m : List ℕ) → Kin g → Kin g' → name_of (state_of joined g) ≡ some m → name_of (state_of joined g') ≡ some m → g ≡ g'
+  single_kin : (g g' : ℕ) (m : List ℕ) → Kin g → Kin g' → name_of (state_of joined g) ≡ some m → name_of (state_of joined g') ≡ some m → g ≡ g'
   unfolding name_of
-  single-kin g g' m (server a s b) k e e' = absurd (none-some (sym (ap name_of b) ∙ e))
-  single-kin g g' m (mine a b) k e e' = absurd (none-some (sym (ap name_of b) ∙ e))
-  single-kin g g' m (old a b) (server c s d) e e' = absurd (none-some (sym (ap name_of d) ∙ e'))
-  single-kin g g' m (old a b) (mine c d) e e' = absurd (none-some (sym (ap name_of d) ∙ e'))
-  single-kin g g' m (old a b) (old c d) e e' = w.single g g' m a c (sym (ap name_of b) ∙ e) (sym (ap name_of d) ∙ e')
+  single_kin g g' m (server a s b) k e e' = absurd (none_some (sym (ap name_of b) ∙ e))
+  single_kin g g' m (mine a b) k e e' = absurd (none_some (sym (ap name_of b) ∙ e))
+  single_kin g g' m (old a b) (server c s d) e e' = absurd (none_some (sym (ap name_of d) ∙ e'))
+  single_kin g g' m (old a b) (mine c d) e e' = absurd (none_some (sym (ap name_of d) ∙ e'))
+  single_kin g g' m (old a b) (old c d) e e' = w.single g g' m a c (sym (ap name_of b) ∙ e) (sym (ap name_of d) ∙ e')
 
-  pub wf-joined : WellFormed joined
+  pub wf_joined : WellFormed joined
   unfolding joined
-  wf-joined =
+  wf_joined =
       record {
-        sized = rw (size-become t₁ h σ₂, size-enter t i false σ₁) w.sized;
-        paired = λ g p a e q. paired-kin g p (kin g a) (kin p q) e;
-        apart = λ g a e. apart-kin g (kin g a) e;
-        past = λ g p a e. past-kin g p (kin g a) e;
-        single = λ g g' m a a' e e'. single-kin g g' m (kin g a) (kin g' a') e e';
+        sized = rw (size_become t₁ h σ₂, size_enter t i false σ₁) w.sized;
+        paired = λ g p a e q. paired_kin g p (kin g a) (kin p q) e;
+        apart = λ g a e. apart_kin g (kin g a) e;
+        past = λ g p a e. past_kin g p (kin g a) e;
+        single = λ g g' m a a' e e'. single_kin g g' m (kin g a) (kin g' a') e e';
       }

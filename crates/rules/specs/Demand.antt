@@ -5,7 +5,7 @@ use Rattle.rules.specs.Table.{Table, State, fresh, is_live, state_of}
 use Rattle.rules.specs.Outcome.{Call, registry}
 use Rattle.rules.specs.Run.{run, after, in_range}
 
--- "suppose a connect, accept, read, recvmsg, write or sendmsg answered EAGAIN": no other call answers it (`only-six`)
+-- "suppose a connect, accept, read, recvmsg, write or sendmsg answered EAGAIN": no other call answers it (`only_six`)
 abbrev pub Blocks : Table → Call → Type 0
 Blocks t x = (run t x).no ≡ 8
 

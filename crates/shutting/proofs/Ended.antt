@@ -9,54 +9,54 @@ use Rattle.inbox.specs.View as inbox
 use Rattle.inbox.specs.View.{count, items_in}
 use Rattle.inbox.specs.Promise.{move_on}
 use Rattle.inbox.specs.declared.Inbox.{Inbox}
-use Rattle.inbox.proofs.Shows.{length-items, items-are-all, discard-shows}
-use Rattle.inbox.proofs.Kept.{InRange, gone-in}
+use Rattle.inbox.proofs.Shows.{length-items, items_are_all, discard_shows}
+use Rattle.inbox.proofs.Kept.{InRange, gone_in}
 use Rattle.rules.specs.Table as model
 use Rattle.rules.specs.Inbox.{nothing, all_items}
 use Rattle.storage.specs.declared.State.TheVariants.{Connected}
 use Rattle.storage.specs.declared.Connection.{Connection}
 use Rattle.promise.specs.Hidden.{hidden_in, inbox_on}
-use Rattle.promise.proofs.Known.{inbox-stays}
-use Rattle.promise.proofs.Held.{sized, gone-hidden}
+use Rattle.promise.proofs.Known.{inbox_stays}
+use Rattle.promise.proofs.Held.{sized, gone_hidden}
 use Rattle.shutting.specs.Parts.{ended_with, left_of, dropped_of}
 
 -- ── The inbox, read shut or not ──
 
-pub left-range : (c : ℕ) (rd : Bool) (q : Inbox) → InRange c q → InRange c (left_of c rd q)
+pub left_range : (c : ℕ) (rd : Bool) (q : Inbox) → InRange c q → InRange c (left_of c rd q)
 unfolding left_of
-left-range c true q r = gone-in c q (count q) q.items r (omega arith) (omega arith)
-left-range c false q r = r
+left_range c true q r = gone_in c q (count q) q.items r (omega arith) (omega arith)
+left_range c false q r = r
 
-pub left-shows : (c : ℕ) (rd : Bool) (ring places tokens : List ℕ) (q : Inbox) → inbox.view ring places tokens (left_of c rd q) ≡ cond rd nothing (inbox.view ring places tokens q)
+pub left_shows : (c : ℕ) (rd : Bool) (ring places tokens : List ℕ) (q : Inbox) → inbox.view ring places tokens (left_of c rd q) ≡ cond rd nothing (inbox.view ring places tokens q)
 unfolding left_of
-left-shows c true ring places tokens q = discard-shows c ring places tokens q
-left-shows c false ring places tokens q = refl
+left_shows c true ring places tokens q = discard_shows c ring places tokens q
+left_shows c false ring places tokens q = refl
 
 module _ (places tokens : List ℕ) (q : Inbox) (lp : length places ≡ 256) (lt : length tokens ≡ 256) (hf : q.first < 256) (hi : q.items ≤ 256) where
-  pub dropped-all : (rd : Bool) → dropped_of rd tokens q ≡ cond rd (all_items (inbox.groups_of (inbox.distances q places) (items_in tokens q))) []
+  pub dropped_all : (rd : Bool) → dropped_of rd tokens q ≡ cond rd (all_items (inbox.groups_of (inbox.distances q places) (items_in tokens q))) []
   unfolding dropped_of
-  dropped-all true = sym (items-are-all places tokens q lp lt hf hi)
-  dropped-all false = refl
+  dropped_all true = sym (items_are_all places tokens q lp lt hf hi)
+  dropped_all false = refl
 
-  pub dropped-long : (rd : Bool) → cond rd q.items 0 ≡ length (dropped_of rd tokens q)
+  pub dropped_long : (rd : Bool) → cond rd q.items 0 ≡ length (dropped_of rd tokens q)
   unfolding dropped_of
-  dropped-long true = sym (length-items tokens q lt hf hi)
-  dropped-long false = refl
+  dropped_long true = sym (length-items tokens q lt hf hi)
+  dropped_long false = refl
 
 -- ── The numbers that the view forgets ──
 
 -- nothing has gone
-pub stays-hidden : (c : ℕ) (k : Connection) (i : model.Inbox) (x y : Bool) → InRange c k.inbox → hidden_in (Connected (ended_with k k.inbox x y)) ≡ inbox_on c (hidden_in (Connected k)) i i
+pub stays_hidden : (c : ℕ) (k : Connection) (i : model.Inbox) (x y : Bool) → InRange c k.inbox → hidden_in (Connected (ended_with k k.inbox x y)) ≡ inbox_on c (hidden_in (Connected k)) i i
 unfolding hidden_in
-stays-hidden c k i x y r = sym (inbox-stays c k i r.head_in r.first-in)
+stays_hidden c k i x y r = sym (inbox_stays c k i r.head_in r.first_in)
 
-pub left-hidden : (c : ℕ) (k : Connection) (rd x y : Bool) (ring places tokens : List ℕ) → length ring ≡ c → length places ≡ 256 → length tokens ≡ 256 → InRange c k.inbox
+pub left_hidden : (c : ℕ) (k : Connection) (rd x y : Bool) (ring places tokens : List ℕ) → length ring ≡ c → length places ≡ 256 → length tokens ≡ 256 → InRange c k.inbox
     → hidden_in (Connected (ended_with k (left_of c rd k.inbox) x y)) ≡ inbox_on c (hidden_in (Connected k)) (inbox.view ring places tokens k.inbox) (inbox.view ring places tokens (left_of c rd k.inbox))
 unfolding left_of
-left-hidden c k true x y ring places tokens lr lp lt r =
+left_hidden c k true x y ring places tokens lr lp lt r =
     let q = k.inbox in
     let all = move_on c q (count q) q.items in
     let long : (p : Inbox) → InRange c p → InRange (length ring) p = λ p. subst (λ (z : ℕ). InRange z p) (sym lr) in
-    gone-hidden c k (ended_with k all x y) (inbox.view ring places tokens q) (inbox.view ring places tokens all) (count q) q.items (omega arith) (omega arith) (sized ring places tokens q lp lt (long q r)) refl
-    (sized ring places tokens all lp lt (long all (gone-in c q (count q) q.items r (omega arith) (omega arith))))
-left-hidden c k false x y ring places tokens lr lp lt r = stays-hidden c k (inbox.view ring places tokens k.inbox) x y r
+    gone_hidden c k (ended_with k all x y) (inbox.view ring places tokens q) (inbox.view ring places tokens all) (count q) q.items (omega arith) (omega arith) (sized ring places tokens q lp lt (long q r)) refl
+    (sized ring places tokens all lp lt (long all (gone_in c q (count q) q.items r (omega arith) (omega arith))))
+left_hidden c k false x y ring places tokens lr lp lt r = stays_hidden c k (inbox.view ring places tokens k.inbox) x y r

@@ -28,7 +28,7 @@ use Rattle.rules.specs.Inbox.{nothing, all_items}
 use Rattle.rules.specs.Outcome.{Call, Outcome, refuse, answer, refuse_if, open_one}
 use Rattle.rules.specs.Ending.{close_ends, do_shutdown}
 use Rattle.rules.specs.Run.{run, shuts_read, shuts_write}
-use Rattle.rules.proofs.Frame.{at-put-other, slots_apart, none-some}
+use Rattle.rules.proofs.Frame.{at_put_other, slots_apart, none_some}
 use Rattle.rules.proofs.Wf.{peer_of}
 use Rattle.storage.specs.Layout.{part, tokens_base}
 use Rattle.storage.specs.Cells.{cell_at, state_of, store_at, cell_of}
@@ -40,59 +40,59 @@ use Rattle.storage.specs.declared.Slot.{Slot}
 use Rattle.storage.specs.declared.State.{State}
 use Rattle.storage.specs.declared.State.TheVariants.{Closed, Unbound, Bound, Listening, Connected}
 use Rattle.storage.specs.declared.Connection.{Connection}
-use Rattle.storage.proofs.Coding.{connected-inj, loaded-generation, loaded-state, loaded_at}
-use Rattle.storage.proofs.Framing.{store-rows}
-use Rattle.storage.proofs.Around.{store-around, around_then, roomy-around}
-use Rattle.storage.proofs.Viewed.{open-view, put_view}
+use Rattle.storage.proofs.Coding.{connected_inj, loaded_generation, loaded_state, loaded_at}
+use Rattle.storage.proofs.Framing.{store_rows}
+use Rattle.storage.proofs.Around.{store_around, around_then, roomy_around}
+use Rattle.storage.proofs.Viewed.{open_view, put_view}
 use Rattle.table.specs.Admission.{Admitted}
 use Rattle.promise.specs.Answers.{refused_with, released_with}
 use Rattle.promise.specs.Promise.{Lists, lists, Stored, Done}
 use Rattle.promise.specs.declared.Answer.{Answer}
-use Rattle.promise.proofs.Known.{Known, known, refused-done}
-use Rattle.promise.proofs.Asked.{slot-in}
-use Rattle.promise.proofs.Kept.{Keeps, keeps_same, row-changed, row_other}
-use Rattle.promise.proofs.Changed.{Fit, fit_same, row-stored, rows-kept, released-done}
+use Rattle.promise.proofs.Known.{Known, known, refused_done}
+use Rattle.promise.proofs.Asked.{slot_in}
+use Rattle.promise.proofs.Kept.{Keeps, keeps_same, row_changed, row_other}
+use Rattle.promise.proofs.Changed.{Fit, fit_same, row_stored, rows_kept, released_done}
 use Rattle.promise.proofs.Called.{Unconnected, unconnected}
-use Rattle.promise.proofs.Held.{ring_long, places-long, tokens-long, Held, held, placed_same, connected-fit, connected-keeps, connected-put}
-use Rattle.promise.proofs.Live.{Live, live, opened, live-run, stale-run, state-seen}
+use Rattle.promise.proofs.Held.{ring_long, places_long, tokens_long, Held, held, placed_same, connected_fit, connected_keeps, connected_put}
+use Rattle.promise.proofs.Live.{Live, live, opened, live_run, stale_run, state_seen}
 use Rattle.shutting.specs.Parts.{reads_of, writes_of, ended_with, left_of, dropped_of, Drops, Ends, Follows, Shuts}
-use Rattle.shutting.proofs.Ended.{left-range, left-shows, dropped-all, dropped-long, left-hidden, stays-hidden}
+use Rattle.shutting.proofs.Ended.{left_range, left_shows, dropped_all, dropped_long, left_hidden, stays_hidden}
 
 -- ── The parts ──
 
 module _ (c : ℕ) (tokens rl : List ℕ) (q : Inbox) where
-  pub nothing-dropped : (rd : Bool) → not rd ≡ true → Drops c tokens rl rl rd q (record { released = 0; inbox = q })
+  pub nothing_dropped : (rd : Bool) → not rd ≡ true → Drops c tokens rl rl rd q (record { released = 0; inbox = q })
   unfolding left_of dropped_of
-  nothing-dropped true e = absurd (false≢true e)
-  nothing-dropped false e = record { inbox-is = refl; releases-it = refl; released-are = refl }
+  nothing_dropped true e = absurd (false≢true e)
+  nothing_dropped false e = record { inbox_is = refl; releases_it = refl; released_are = refl }
 
-  pub all-dropped : (rd : Bool) (rl' : List ℕ) (r : Discarded) → not rd ≡ false → Discards c tokens rl rl' 0 q r → Drops c tokens rl rl' rd q r
+  pub all_dropped : (rd : Bool) (rl' : List ℕ) (r : Discarded) → not rd ≡ false → Discards c tokens rl rl' 0 q r → Drops c tokens rl rl' rd q r
   unfolding left_of dropped_of
-  all-dropped true rl' r e d = record { inbox-is = d.numbers; releases-it = d.releases-it; released-are = d.released-are }
-  all-dropped false rl' r e d = absurd (true≢false e)
+  all_dropped true rl' r e d = record { inbox_is = d.numbers; releases_it = d.releases_it; released_are = d.released_are }
+  all_dropped false rl' r e d = absurd (true≢false e)
 
-pub ends-stored : (w w' : List ℕ) (i g : ℕ) (k : Connection) (q : Inbox) (x y a b : Bool) → a ≡ k.inbox_closed || x → b ≡ k.outbox_closed || y
+pub ends_stored : (w w' : List ℕ) (i g : ℕ) (k : Connection) (q : Inbox) (x y a b : Bool) → a ≡ k.inbox_closed || x → b ≡ k.outbox_closed || y
     → w' ≡ store_at w i (cell_of g (Connected (record { peer = k.peer; inbox = q; inbox_closed = a; outbox_closed = b; waits = k.waits; place = k.place })))
     → w' ≡ store_at w i (cell_of g (Connected (ended_with k q x y)))
-ends-stored w w' i g k q x y a b ea eb e =
+ends_stored w w' i g k q x y a b ea eb e =
     e
     ∙ ap₂ (λ (u v : Bool). store_at w i (cell_of g (Connected (record { peer = k.peer; inbox = q; inbox_closed = u; outbox_closed = v; waits = k.waits; place = k.place })))) ea eb
 
-pub own-ended : (c i g : ℕ) (k : Connection) (rd wr : Bool) (w w' t rl rl' : List ℕ) (d : Discarded) → Drops c (part (tokens_base i) 256 t) rl rl' rd k.inbox d
+pub own_ended : (c i g : ℕ) (k : Connection) (rd wr : Bool) (w w' t rl rl' : List ℕ) (d : Discarded) → Drops c (part (tokens_base i) 256 t) rl rl' rd k.inbox d
     → w' ≡ store_at w i (cell_of g (Connected (ended_with k d.inbox rd wr))) → Ends c i g k rd wr w w' t rl rl' d.released
-own-ended c i g k rd wr w w' t rl rl' d x e =
+own_ended c i g k rd wr w w' t rl rl' d x e =
     record {
-      words = e ∙ ap (λ (q : Inbox). store_at w i (cell_of g (Connected (ended_with k q rd wr)))) x.inbox-is;
-      releases-it = x.releases-it;
-      released-are = x.released-are;
+      words = e ∙ ap (λ (q : Inbox). store_at w i (cell_of g (Connected (ended_with k q rd wr)))) x.inbox_is;
+      releases_it = x.releases_it;
+      released_are = x.released_are;
     }
 
 -- ── The rule ──
 
 module _ (t : Table) (h : ℕ) (rd wr : Bool) (p : ℕ) (i : model.Inbox) (x y : Bool) (t₁ : Table) (e₁ : become t h (model.State.Connected p (cond rd nothing i) (x || rd) (y || wr)) ≡ t₁) where
-  alone-is : is_open t p ≡ false → do_shutdown t h rd wr (model.State.Connected p i x y) ≡ answer t₁ 0 (h ∷ []) (cond rd (all_items i.groups) [])
+  alone_is : is_open t p ≡ false → do_shutdown t h rd wr (model.State.Connected p i x y) ≡ answer t₁ 0 (h ∷ []) (cond rd (all_items i.groups) [])
   unfolding do_shutdown open_one
-  alone-is o = rw (o, e₁) refl
+  alone_is o = rw (o, e₁) refl
 
   both_is : (t₂ : Table) → is_open t p ≡ true → become t₁ p (close_ends wr rd (model.state_of t₁ p)) ≡ t₂
       → do_shutdown t h rd wr (model.State.Connected p i x y) ≡ answer t₂ 0 (h ∷ p ∷ []) (cond rd (all_items i.groups) [])
@@ -128,55 +128,55 @@ module _ (n c : ℕ) (w b t : List ℕ) (kn : Known n c (lent w b t)) (h i : ℕ
 
   says : state_of (row_at n c (lent w b t) i).cell ≡ Connected k
   unfolding row_at
-  says = hd.is-connected
+  says = hd.is_connected
 
   lp : length (row_at n c (lent w b t) i).places ≡ 256
-  lp = places-long n c s kn.roomy i hd.within
+  lp = places_long n c s kn.roomy i hd.within
 
   lt : length (row_at n c (lent w b t) i).tokens ≡ 256
-  lt = tokens-long n c s kn.roomy i hd.within
+  lt = tokens_long n c s kn.roomy i hd.within
 
   fit₁ : Fit n c (row_at n c (lent w b t) i) row₁
   fit₁ =
-      connected-fit row row₁ (cell_at w i).generation k k₁ says refl n c (placed_same k k₁ refl refl hd.says) (left-range c rd k.inbox hd.range) refl
-      (left-hidden c k rd rd wr row.ring row.places row.tokens (ring_long n c s kn.roomy i hd.within) lp lt hd.range)
+      connected_fit row row₁ (cell_at w i).generation k k₁ says refl n c (placed_same k k₁ refl refl hd.says) (left_range c rd k.inbox hd.range) refl
+      (left_hidden c k rd rd wr row.ring row.places row.tokens (ring_long n c s kn.roomy i hd.within) lp lt hd.range)
 
   keep₁ : Keeps (row_at n c (lent w b t) i) row₁
   unfolding row_at
-  keep₁ = connected-keeps (row_at n c s i) row₁ (cell_at w i).generation k k₁ hd.is-connected refl refl refl refl
+  keep₁ = connected_keeps (row_at n c s i) row₁ (cell_at w i).generation k k₁ hd.is_connected refl refl refl refl
 
   around₁ : Around n c (lent w b t) s₁
-  around₁ = store-around n c w b t kn.roomy i hd.within cell₁
+  around₁ = store_around n c w b t kn.roomy i hd.within cell₁
 
   rows₁ : rows n c s₁ ≡ set (rows n c (lent w b t)) i row₁
-  rows₁ = store-rows n c w b t kn.roomy i hd.within cell₁
+  rows₁ = store_rows n c w b t kn.roomy i hd.within cell₁
 
   next₁ : become (view n c (lent w b t)) h (model.State.Connected k.peer.0 (cond rd nothing old) (k.inbox_closed || rd) (k.outbox_closed || wr)) ≡ t₁
   next₁ =
       ap (λ (q : model.Inbox). become (view n c s) h (model.State.Connected k.peer.0 q (k.inbox_closed || rd) (k.outbox_closed || wr)))
-      (sym (left-shows c rd row.ring row.places row.tokens k.inbox))
-      ∙ connected-put row row₁ (cell_at w i).generation k k₁ says refl refl (view n c s) h i hd.is-slot hd.shown
+      (sym (left_shows c rd row.ring row.places row.tokens k.inbox))
+      ∙ connected_put row row₁ (cell_at w i).generation k k₁ says refl refl (view n c s) h i hd.is_slot hd.shown
 
-  items-are : dropped_of rd (part (tokens_base i) 256 t) k.inbox ≡ cond rd (all_items old.groups) []
+  items_are : dropped_of rd (part (tokens_base i) 256 t) k.inbox ≡ cond rd (all_items old.groups) []
   unfolding row_at
-  items-are = dropped-all row.places row.tokens k.inbox lp lt hd.range.first-in hd.range.items-in rd
+  items_are = dropped_all row.places row.tokens k.inbox lp lt hd.range.first_in hd.range.items-in rd
 
   module _ (w₁ rl rl' : List ℕ) (m : ℕ) (en : Ends c i (cell_at w i).generation k rd wr w w₁ t rl rl' m) where
-    released-is : m ≡ length (cond rd (all_items old.groups) [])
+    released_is : m ≡ length (cond rd (all_items old.groups) [])
     unfolding row_at
-    released-is = en.released-are ∙ dropped-long row.places row.tokens k.inbox lp lt hd.range.first-in hd.range.items-in rd ∙ ap length items-are
+    released_is = en.released_are ∙ dropped_long row.places row.tokens k.inbox lp lt hd.range.first_in hd.range.items-in rd ∙ ap length items_are
 
-    pub shut-alone : (wk : List ℕ) (r : Answer) → is_open (view n c (lent w b t)) k.peer.0 ≡ false → r ≡ released_with 1 m
+    pub shut_alone : (wk : List ℕ) (r : Answer) → is_open (view n c (lent w b t)) k.peer.0 ≡ false → r ≡ released_with 1 m
         → Shuts n c (lent w b t) (lent w₁ b t) h rd wr (lists wk rl) (lists (set wk 0 h) rl') r
-    shut-alone wk r o er =
+    shut_alone wk r o er =
         record {
           shuts = λ call to.
               let eo : run (view n c s) call ≡ answer t₁ 0 (h ∷ []) (cond rd (all_items old.groups) []) =
-              to ∙ ap (do_shutdown (view n c s) h rd wr) hd.state-is ∙ alone-is (view n c s) h rd wr k.peer.0 old k.inbox_closed k.outbox_closed t₁ next₁ o in
-              released-done _ t₁ 0 (h ∷ []) _ n c s (lent w₁ b t) (lists wk rl) (lists (set wk 0 h) rl') _ m r eo
+              to ∙ ap (do_shutdown (view n c s) h rd wr) hd.state_is ∙ alone_is (view n c s) h rd wr k.peer.0 old k.inbox_closed k.outbox_closed t₁ next₁ o in
+              released_done _ t₁ 0 (h ∷ []) _ n c s (lent w₁ b t) (lists wk rl) (lists (set wk 0 h) rl') _ m r eo
               (subst (λ (y : List ℕ). Stored n c s (lent y b t) (run (view n c s) call)) (sym en.words)
-              (row-stored n c s s₁ call i row₁ kn hd.within rows₁ around₁ (ap (λ (x : Outcome). x.next) eo) fit₁ keep₁))
-              refl (en.releases-it ∙ ap (sets rl 0) items-are) refl released-is er;
+              (row_stored n c s s₁ call i row₁ kn hd.within rows₁ around₁ (ap (λ (x : Outcome). x.next) eo) fit₁ keep₁))
+              refl (en.releases_it ∙ ap (sets rl 0) items_are) refl released_is er;
         }
 
     module _ (j : ℕ) (k₂ : Connection) (hp : Held n c (lent w b t) k.peer.0 j k₂) (apart : j ≢ i) where
@@ -195,32 +195,32 @@ module _ (n c : ℕ) (w b t : List ℕ) (kn : Known n c (lent w b t)) (h i : ℕ
       abbrev t₂ : Table
       t₂ = put t₁ j (show row₂)
 
-      peer-says : state_of (row_at n c (lent w b t) j).cell ≡ Connected k₂
+      peer_says : state_of (row_at n c (lent w b t) j).cell ≡ Connected k₂
       unfolding row_at
-      peer-says = hp.is-connected
+      peer_says = hp.is_connected
 
       fit₂ : Fit n c (row_at n c (lent w b t) j) row₂
       fit₂ =
-          connected-fit (row_at n c s j) row₂ (cell_at w j).generation k₂ k₃ peer-says refl n c (placed_same k₂ k₃ refl refl hp.says) hp.range refl
-          (stays-hidden c k₂ (inbox.view (row_at n c s j).ring (row_at n c s j).places (row_at n c s j).tokens k₂.inbox) wr rd hp.range)
+          connected_fit (row_at n c s j) row₂ (cell_at w j).generation k₂ k₃ peer_says refl n c (placed_same k₂ k₃ refl refl hp.says) hp.range refl
+          (stays_hidden c k₂ (inbox.view (row_at n c s j).ring (row_at n c s j).places (row_at n c s j).tokens k₂.inbox) wr rd hp.range)
 
       keep₂ : Keeps (row_at n c (lent w b t) j) row₂
       unfolding row_at
-      keep₂ = connected-keeps (row_at n c s j) row₂ (cell_at w j).generation k₂ k₃ hp.is-connected refl refl refl refl
+      keep₂ = connected_keeps (row_at n c s j) row₂ (cell_at w j).generation k₂ k₃ hp.is_connected refl refl refl refl
 
       around₂ : Around n c (lent w b t) s₂
-      around₂ = around_then around₁ (store-around n c (store_at w i cell₁) b t (roomy-around around₁ kn.roomy) j hp.within cell₂)
+      around₂ = around_then around₁ (store_around n c (store_at w i cell₁) b t (roomy_around around₁ kn.roomy) j hp.within cell₂)
 
       rows₂ : rows n c s₂ ≡ set (rows n c s₁) j row₂
       rows₂ =
-          store-rows n c (store_at w i cell₁) b t (roomy-around around₁ kn.roomy) j hp.within cell₂
+          store_rows n c (store_at w i cell₁) b t (roomy_around around₁ kn.roomy) j hp.within cell₂
           ∙ ap (λ (u : Row). set (rows n c s₁) j (with_cell cell₂ u)) (row_other n c s s₁ i row₁ hd.within rows₁ j hp.within apart)
 
       own_row : row_at n c s₂ i ≡ row₁
-      own_row = row_other n c s₁ s₂ j row₂ hp.within rows₂ i hd.within (λ z. apart (sym z)) ∙ row-changed n c s s₁ i row₁ hd.within rows₁
+      own_row = row_other n c s₁ s₂ j row₂ hp.within rows₂ i hd.within (λ z. apart (sym z)) ∙ row_changed n c s s₁ i row₁ hd.within rows₁
 
-      peer-row : row_at n c s₂ j ≡ row₂
-      peer-row = row-changed n c s₁ s₂ j row₂ hp.within rows₂
+      peer_row : row_at n c s₂ j ≡ row₂
+      peer_row = row_changed n c s₁ s₂ j row₂ hp.within rows₂
 
       other_row : (z : ℕ) → z < n → z ≢ i → z ≢ j → row_at n c s₂ z ≡ row_at n c (lent w b t) z
       other_row z hz a d = row_other n c s₁ s₂ j row₂ hp.within rows₂ z hz d ∙ row_other n c s s₁ i row₁ hd.within rows₁ z hz a
@@ -232,7 +232,7 @@ module _ (n c : ℕ) (w b t : List ℕ) (kn : Known n c (lent w b t)) (h i : ℕ
           elim (dec_eq z i) [
             | yes e ↦ subst (λ (u : ℕ). P (row_at n c s u) (row_at n c s₂ u)) (sym e) (subst (P (row_at n c s i)) (sym own_row) a)
             | no x ↦ elim (dec_eq z j) [
-              | yes e ↦ subst (λ (u : ℕ). P (row_at n c s u) (row_at n c s₂ u)) (sym e) (subst (P (row_at n c s j)) (sym peer-row) d)
+              | yes e ↦ subst (λ (u : ℕ). P (row_at n c s u) (row_at n c s₂ u)) (sym e) (subst (P (row_at n c s j)) (sym peer_row) d)
               | no y ↦ subst (P (row_at n c s z)) (sym (other_row z hz x y)) (f z hz)
             ]
           ]
@@ -241,30 +241,30 @@ module _ (n c : ℕ) (w b t : List ℕ) (kn : Known n c (lent w b t)) (h i : ℕ
       unfolding row_at
       fit = each (Fit n c) fit₁ fit₂ (λ z hz. fit_same n c (row_at n c s z) (kn.fields z hz) (kn.ranges z hz))
 
-      peer-shown : at t₁ j ≡ show_in (row_at n c (lent w b t) j) (cell_at w j).generation (Connected k₂)
-      peer-shown = at-put-other (view n c s) i (show row₁) j apart ∙ hp.shown
+      peer_shown : at t₁ j ≡ show_in (row_at n c (lent w b t) j) (cell_at w j).generation (Connected k₂)
+      peer_shown = at_put_other (view n c s) i (show row₁) j apart ∙ hp.shown
 
       next₂ : become t₁ k.peer.0 (close_ends wr rd (model.state_of t₁ k.peer.0)) ≡ t₂
       unfolding close_ends model.state_of show_in
       next₂ =
           ap (λ (σ : model.State). become t₁ k.peer.0 (close_ends wr rd σ))
-          (ap (λ (z : ℕ). (at t₁ z).state) (sym hp.is-slot) ∙ ap (λ (x : model.Slot). x.state) peer-shown)
-          ∙ connected-put (row_at n c s j) row₂ (cell_at w j).generation k₂ k₃ peer-says refl refl t₁ k.peer.0 j hp.is-slot peer-shown
+          (ap (λ (z : ℕ). (at t₁ z).state) (sym hp.is_slot) ∙ ap (λ (x : model.Slot). x.state) peer_shown)
+          ∙ connected_put (row_at n c s j) row₂ (cell_at w j).generation k₂ k₃ peer_says refl refl t₁ k.peer.0 j hp.is_slot peer_shown
 
-      pub shut-both : (w₂ wk : List ℕ) (r : Answer) → w₂ ≡ store_at w₁ j cell₂ → r ≡ released_with 2 m
+      pub shut_both : (w₂ wk : List ℕ) (r : Answer) → w₂ ≡ store_at w₁ j cell₂ → r ≡ released_with 2 m
           → Shuts n c (lent w b t) (lent w₂ b t) h rd wr (lists wk rl) (lists (set (set wk 0 h) 1 k.peer.0) rl') r
-      shut-both w₂ wk r ew er =
+      shut_both w₂ wk r ew er =
           record {
             shuts = λ call to.
                 let eo : run (view n c s) call ≡ answer t₂ 0 (h ∷ k.peer.0 ∷ []) (cond rd (all_items old.groups) []) =
-                to ∙ ap (do_shutdown (view n c s) h rd wr) hd.state-is
+                to ∙ ap (do_shutdown (view n c s) h rd wr) hd.state_is
                 ∙ both_is (view n c s) h rd wr k.peer.0 old k.inbox_closed k.outbox_closed t₁ next₁ t₂ hp.opens next₂ in
                 let shown : view n c s₂ ≡ (run (view n c s) call).next =
                 put_view n c s₁ s₂ j row₂ rows₂ ∙ ap (λ (u : Table). put u j (show row₂)) (put_view n c s s₁ i row₁ rows₁) ∙ sym (ap (λ (x : Outcome). x.next) eo) in
-                released-done _ t₂ 0 (h ∷ k.peer.0 ∷ []) _ n c s (lent w₂ b t) (lists wk rl) (lists (set (set wk 0 h) 1 k.peer.0) rl') _ m r eo
+                released_done _ t₂ 0 (h ∷ k.peer.0 ∷ []) _ n c s (lent w₂ b t) (lists wk rl) (lists (set (set wk 0 h) 1 k.peer.0) rl') _ m r eo
                 (subst (λ (y : List ℕ). Stored n c s (lent y b t) (run (view n c s) call)) (sym (ew ∙ ap (λ (y : List ℕ). store_at y j cell₂) en.words))
-                (rows-kept n c s s₂ call kn around₂ shown fit (each Keeps keep₁ keep₂ (λ z hz. keeps_same (row_at n c s z)))))
-                refl (en.releases-it ∙ ap (sets rl 0) items-are) refl released-is er;
+                (rows_kept n c s s₂ call kn around₂ shown fit (each Keeps keep₁ keep₂ (λ z hz. keeps_same (row_at n c s z)))))
+                refl (en.releases_it ∙ ap (sets rl 0) items_are) refl released_is er;
           }
 
 -- ── As the code has it ──
@@ -272,36 +272,36 @@ module _ (n c : ℕ) (w b t : List ℕ) (kn : Known n c (lent w b t)) (h i : ℕ
 -- ── end_peer ──
 
 module _ (p : ℕ) (rd wr : Bool) (w : List ℕ) (j : ℕ) (ej : j ≡ slot_of p) where
-  pub follow-in : 8 + 16 * slot_of p + 16 ≤ length w → 8 + 16 * j + 16 ≤ length w
-  follow-in h = omega arith
+  pub follow_in : 8 + 16 * slot_of p + 16 ≤ length w → 8 + 16 * j + 16 ≤ length w
+  follow_in h = omega arith
 
   module _ (slot : Slot) (es : slot ≡ loaded_at w j) where
-    pub follows-not : Unconnected slot.state → Follows p rd wr w w
-    follows-not u = record { words = λ k e. absurd (u k (loaded-state w ej es ∙ e)) }
+    pub follows_not : Unconnected slot.state → Follows p rd wr w w
+    follows_not u = record { words = λ k e. absurd (u k (loaded_state w ej es ∙ e)) }
 
     pub follows : (k : Connection) → slot.state ≡ Connected k → (w' : List ℕ) → w' ≡ store_at w j (cell_of slot.generation (Connected (ended_with k k.inbox wr rd))) → Follows p rd wr w w'
     follows k ek w' ew =
         record {
           words = λ k₂ e.
-              let same : k ≡ k₂ = connected-inj (sym ek ∙ loaded-state w ej es ∙ e) in
+              let same : k ≡ k₂ = connected_inj (sym ek ∙ loaded_state w ej es ∙ e) in
               ew ∙ ap₂ (λ (x : ℕ) (q : Connection). store_at w x (cell_of slot.generation (Connected (ended_with q q.inbox wr rd)))) ej same
-              ∙ ap (λ (g : ℕ). store_at w (slot_of p) (cell_of g (Connected (ended_with k₂ k₂.inbox wr rd)))) (loaded-generation w ej es);
+              ∙ ap (λ (g : ℕ). store_at w (slot_of p) (cell_of g (Connected (ended_with k₂ k₂.inbox wr rd)))) (loaded_generation w ej es);
         }
 
 -- ── shut ──
 
 -- a peer is connected
-has-peer : (p : ℕ) (r : Row) (g : ℕ) (σ : State) → peer_of (show_in r g σ).state ≡ some p → (k : Connection) × (σ ≡ Connected k)
+has_peer : (p : ℕ) (r : Row) (g : ℕ) (σ : State) → peer_of (show_in r g σ).state ≡ some p → (k : Connection) × (σ ≡ Connected k)
 unfolding peer_of show_in
-has-peer p r g Closed e = absurd (none-some e)
-has-peer p r g Unbound e = absurd (none-some e)
-has-peer p r g (Bound m) e = absurd (none-some e)
-has-peer p r g (Listening q) e = absurd (none-some e)
-has-peer p r g (Connected k) e = (k, refl)
+has_peer p r g Closed e = absurd (none_some e)
+has_peer p r g Unbound e = absurd (none_some e)
+has_peer p r g (Bound m) e = absurd (none_some e)
+has_peer p r g (Listening q) e = absurd (none_some e)
+has_peer p r g (Connected k) e = (k, refl)
 
 module _ {n c : ℕ} {w b t : List ℕ} {u v : ℕ} (a : Admitted n c (lent w b t) u v) where
-  pub two-wakes : 1 < u
-  two-wakes = let z = a.wake-list in let y = a.some-slot in omega arith
+  pub two_wakes : 1 < u
+  two_wakes = let z = a.wake_list in let y = a.some_slot in omega arith
 
   module _ (h : ℕ) (e : live_in n w h ≡ true) where
     lv : Live n c (lent w b t) h
@@ -309,87 +309,87 @@ module _ {n c : ℕ} {w b t : List ℕ} {u v : ℕ} (a : Admitted n c (lent w b 
 
     module _ (i : ℕ) (ei : i ≡ slot_of h) where
       module _ (slot : Slot) (es : slot ≡ loaded_at w i) where
-        pub shuts-apart : (rd wr : Bool) (l : Lists) (r : Answer) → Unconnected slot.state → r ≡ refused_with 9
+        pub shuts_apart : (rd wr : Bool) (l : Lists) (r : Answer) → Unconnected slot.state → r ≡ refused_with 9
             → Shuts n c (lent w b t) (lent w b t) h rd wr l l r
         unfolding do_shutdown
-        shuts-apart rd wr l r k er =
+        shuts_apart rd wr l r k er =
             let tb = view n c (lent w b t) in
             record {
               shuts = λ call to.
-                  refused-done _ 9 n c (lent w b t) l r
-                  (to ∙ ap (do_shutdown tb h rd wr) (state-seen n c (lent w b t) h slot.state lv.within (sym (loaded-state w ei es)))
+                  refused_done _ 9 n c (lent w b t) l r
+                  (to ∙ ap (do_shutdown tb h rd wr) (state_seen n c (lent w b t) h slot.state lv.within (sym (loaded_state w ei es)))
                   ∙ unconnected (λ σ. do_shutdown tb h rd wr σ ≡ refuse tb 9) refl (λ m. refl) (λ m d q. refl) (row_at n c (lent w b t) (slot_of h)) (cell_at w (slot_of h)).generation slot.state k)
                   (λ z. omega arith) er;
             }
 
         module _ (k : Connection) (ek : slot.state ≡ Connected k) where
-          at-hand : Held n c (lent w b t) h i k
-          at-hand = held n c (lent w b t) h i k (known a) ei lv.opened (sym (ap (λ (q : Slot). q.state) es) ∙ ek)
+          at_hand : Held n c (lent w b t) h i k
+          at_hand = held n c (lent w b t) h i k (known a) ei lv.opened (sym (ap (λ (q : Slot). q.state) es) ∙ ek)
 
-          pub end-asked : ((8 + 16 * i + 16 ≤ length w) × (256 * i + 256 ≤ length t) × (c ≤ 65536) × (256 ≤ v)) × ((k.inbox.head < c) × (count k.inbox ≤ c) × (k.inbox.first < 256) × (k.inbox.items ≤ 256))
-          end-asked =
-              let z = at-hand.within in
+          pub end_asked : ((8 + 16 * i + 16 ≤ length w) × (256 * i + 256 ≤ length t) × (c ≤ 65536) × (256 ≤ v)) × ((k.inbox.head < c) × (count k.inbox ≤ c) × (k.inbox.first < 256) × (k.inbox.items ≤ 256))
+          end_asked =
+              let z = at_hand.within in
               let x = a.tokens in
-              let y = a.release-list in
-              let g = at-hand.range in
-              ((slot-in a i z, omega arith, a.small, omega arith), (g.head_in, g.fits, g.first-in, g.items-in))
+              let y = a.release_list in
+              let g = at_hand.range in
+              ((slot_in a i z, omega arith, a.small, omega arith), (g.head_in, g.fits, g.first_in, g.items-in))
 
           module _ (f : Bool) (ef : f ≡ open_in n w k.peer.0) where
             gone : is_open (view n c (lent w b t)) k.peer.0 ≡ f
-            gone = sym (open-view n c (lent w b t) k.peer.0) ∙ sym ef
+            gone = sym (open_view n c (lent w b t) k.peer.0) ∙ sym ef
 
             module _ (rd wr : Bool) (w₁ rl rl' : List ℕ) (m : ℕ) (en : Ends c i slot.generation k rd wr w w₁ t rl rl' m) where
               ended : Ends c i (cell_at w i).generation k rd wr w w₁ t rl rl' m
               ended = subst (λ (g : ℕ). Ends c i g k rd wr w w₁ t rl rl' m) (ap (λ (q : Slot). q.generation) es) en
 
-              pub shuts-alone : (wk : List ℕ) (r : Answer) → not f ≡ true → r ≡ released_with 1 m → Shuts n c (lent w b t) (lent w₁ b t) h rd wr (lists wk rl) (lists (set wk 0 h) rl') r
-              shuts-alone wk r z er = shut-alone n c w b t (known a) h i k at-hand rd wr w₁ rl rl' m ended wk r (gone ∙ not-true f z) er
+              pub shuts_alone : (wk : List ℕ) (r : Answer) → not f ≡ true → r ≡ released_with 1 m → Shuts n c (lent w b t) (lent w₁ b t) h rd wr (lists wk rl) (lists (set wk 0 h) rl') r
+              shuts_alone wk r z er = shut_alone n c w b t (known a) h i k at_hand rd wr w₁ rl rl' m ended wk r (gone ∙ not-true f z) er
 
               module _ (z : not f ≡ false) where
-                peer-open : is_open (view n c (lent w b t)) k.peer.0 ≡ true
-                peer-open = gone ∙ not-false f z
+                peer_open : is_open (view n c (lent w b t)) k.peer.0 ≡ true
+                peer_open = gone ∙ not-false f z
 
-                peer-less : slot_of k.peer.0 < n
-                peer-less = (opened n c (lent w b t) k.peer.0 peer-open).within
+                peer_less : slot_of k.peer.0 < n
+                peer_less = (opened n c (lent w b t) k.peer.0 peer_open).within
 
-                points-there : peer_of (model.state_of (view n c (lent w b t)) h) ≡ some k.peer.0
+                points_there : peer_of (model.state_of (view n c (lent w b t)) h) ≡ some k.peer.0
                 unfolding peer_of
-                points-there = ap peer_of at-hand.state-is
+                points_there = ap peer_of at_hand.state_is
 
-                slots-differ : slot_of k.peer.0 ≢ i
-                slots-differ y =
-                    slots_apart (view n c (lent w b t)) k.peer.0 h peer-open lv.opened (λ x. (known a).good.sound.wf.apart h lv.opened (points-there ∙ ap some x)) (y ∙ ei)
+                slots_differ : slot_of k.peer.0 ≢ i
+                slots_differ y =
+                    slots_apart (view n c (lent w b t)) k.peer.0 h peer_open lv.opened (λ x. (known a).good.sound.wf.apart h lv.opened (points_there ∙ ap some x)) (y ∙ ei)
 
-                peer-is : (k₂ : Connection) × (state_of (cell_at w (slot_of k.peer.0)) ≡ Connected k₂)
-                peer-is =
-                    has-peer h (row_at n c (lent w b t) (slot_of k.peer.0)) (cell_at w (slot_of k.peer.0)).generation (state_of (cell_at w (slot_of k.peer.0)))
-                    (ap peer_of (sym (state-seen n c (lent w b t) k.peer.0 (state_of (cell_at w (slot_of k.peer.0))) peer-less refl))
-                    ∙ (known a).good.sound.wf.paired h k.peer.0 lv.opened points-there peer-open)
+                peer_is : (k₂ : Connection) × (state_of (cell_at w (slot_of k.peer.0)) ≡ Connected k₂)
+                peer_is =
+                    has_peer h (row_at n c (lent w b t) (slot_of k.peer.0)) (cell_at w (slot_of k.peer.0)).generation (state_of (cell_at w (slot_of k.peer.0)))
+                    (ap peer_of (sym (state_seen n c (lent w b t) k.peer.0 (state_of (cell_at w (slot_of k.peer.0))) peer_less refl))
+                    ∙ (known a).good.sound.wf.paired h k.peer.0 lv.opened points_there peer_open)
 
                 abbrev cell : Cell
                 cell = cell_of (cell_at w i).generation (Connected (ended_with k (left_of c rd k.inbox) rd wr))
 
                 -- the own socket's end leaves the peer
-                same-cell : cell_at w₁ (slot_of k.peer.0) ≡ cell_at w (slot_of k.peer.0)
+                same_cell : cell_at w₁ (slot_of k.peer.0) ≡ cell_at w (slot_of k.peer.0)
                 unfolding row_at
-                same-cell =
+                same_cell =
                     ap (λ (r : Row). r.cell)
-                    (row_other n c (lent w b t) (lent w₁ b t) i (with_cell cell (row_at n c (lent w b t) i)) at-hand.within
-                    (ap (λ (y : List ℕ). rows n c (lent y b t)) ended.words ∙ store-rows n c w b t (known a).roomy i at-hand.within cell) (slot_of k.peer.0) peer-less slots-differ)
+                    (row_other n c (lent w b t) (lent w₁ b t) i (with_cell cell (row_at n c (lent w b t) i)) at_hand.within
+                    (ap (λ (y : List ℕ). rows n c (lent y b t)) ended.words ∙ store_rows n c w b t (known a).roomy i at_hand.within cell) (slot_of k.peer.0) peer_less slots_differ)
 
-                pub peer-still : 8 + 16 * slot_of k.peer.0 + 16 ≤ length w₁
-                peer-still =
-                    let x = slot-in a (slot_of k.peer.0) peer-less in
-                    let y = ap length ended.words ∙ (store-around n c w b t (known a).roomy i at-hand.within cell).words_long in
+                pub peer_still : 8 + 16 * slot_of k.peer.0 + 16 ≤ length w₁
+                peer_still =
+                    let x = slot_in a (slot_of k.peer.0) peer_less in
+                    let y = ap length ended.words ∙ (store_around n c w b t (known a).roomy i at_hand.within cell).words_long in
                     omega arith
 
-                pub shuts-both : (w₂ wk : List ℕ) (r : Answer) → Follows k.peer.0 rd wr w₁ w₂ → r ≡ released_with 2 m
+                pub shuts_both : (w₂ wk : List ℕ) (r : Answer) → Follows k.peer.0 rd wr w₁ w₂ → r ≡ released_with 2 m
                     → Shuts n c (lent w b t) (lent w₂ b t) h rd wr (lists wk rl) (lists (set (set wk 0 h) 1 k.peer.0) rl') r
-                shuts-both w₂ wk r fo er =
+                shuts_both w₂ wk r fo er =
                     let j = slot_of k.peer.0 in
-                    let k₂ = peer-is.0 in
-                    shut-both n c w b t (known a) h i k at-hand rd wr w₁ rl rl' m ended j k₂ (held n c (lent w b t) k.peer.0 j k₂ (known a) refl peer-open peer-is.1) slots-differ w₂ wk r
-                    (fo.words k₂ (ap state_of same-cell ∙ peer-is.1) ∙ ap (λ (x : Cell). store_at w₁ j (cell_of x.generation (Connected (ended_with k₂ k₂.inbox wr rd)))) same-cell) er
+                    let k₂ = peer_is.0 in
+                    shut_both n c w b t (known a) h i k at_hand rd wr w₁ rl rl' m ended j k₂ (held n c (lent w b t) k.peer.0 j k₂ (known a) refl peer_open peer_is.1) slots_differ w₂ wk r
+                    (fo.words k₂ (ap state_of same_cell ∙ peer_is.1) ∙ ap (λ (x : Cell). store_at w₁ j (cell_of x.generation (Connected (ended_with k₂ k₂.inbox wr rd)))) same_cell) er
 
 -- ── shutdown ──
 
@@ -436,9 +436,9 @@ module _ (n c : ℕ) (s : Store) (h : ℕ) (how : ℤ) (f : Bool) (ef : f ≡ li
   abbrev out : Outcome
   out = run (view n c s) (Call.Shutdown h how)
 
-  pub shutdown-stale : (l : Lists) (r : Answer) → not f ≡ true → r ≡ refused_with 1 → Done out n c s s l l r
+  pub shutdown_stale : (l : Lists) (r : Answer) → not f ≡ true → r ≡ refused_with 1 → Done out n c s s l l r
   unfolding run
-  shutdown-stale l r z er = refused-done _ 1 n c s l r (stale-run n c s h f _ ef z) (λ y. omega arith) er
+  shutdown_stale l r z er = refused_done _ 1 n c s l r (stale_run n c s h f _ ef z) (λ y. omega arith) er
 
   module _ (live' : not f ≡ false) (how' : ℤ) (eh : how' ≡ how) (x : How) (ex : x ≡ how_of how') where
     lives : Live n c s h
@@ -448,16 +448,16 @@ module _ (n c : ℕ) (s : Store) (h : ℕ) (how : ℤ) (f : Bool) (ef : f ≡ li
     unfolding numbered how_of
     asked y ey = ap how_of (sym eh) ∙ sym ex ∙ ey
 
-    pub shutdown-refused : (l : Lists) (r : Answer) (y : Errno) → x ≡ How.Refused y → r ≡ refused_with (number_of y) → Done out n c s s l l r
+    pub shutdown_refused : (l : Lists) (r : Answer) (y : Errno) → x ≡ How.Refused y → r ≡ refused_with (number_of y) → Done out n c s s l l r
     unfolding run refuse_if shuts_read shuts_write
-    shutdown-refused l r y ey er =
+    shutdown_refused l r y ey er =
         let p = none_of (equals how 0) (equals how 1) (equals how 2) y (asked (How.Refused y) ey) in
-        refused-done _ 2 n c s l r (live-run n c s h _ lives ∙ rw p.0 refl) (λ z. omega arith) (er ∙ ap refused_with p.1)
+        refused_done _ 2 n c s l r (live_run n c s h _ lives ∙ rw p.0 refl) (λ z. omega arith) (er ∙ ap refused_with p.1)
 
     module _ (m : ShutdownHow) (em : x ≡ How.Is m) where
-      pub shutdown-shuts : (rd wr : Bool) → rd ≡ reads_of m → wr ≡ writes_of m → (s' : Store) (l l' : Lists) (r : Answer) → Shuts n c s s' h rd wr l l' r → Done out n c s s' l l' r
+      pub shutdown_shuts : (rd wr : Bool) → rd ≡ reads_of m → wr ≡ writes_of m → (s' : Store) (l l' : Lists) (r : Answer) → Shuts n c s s' h rd wr l l' r → Done out n c s s' l l' r
       unfolding run refuse_if shuts_read shuts_write
-      shutdown-shuts rd wr er ew s' l l' r y =
+      shutdown_shuts rd wr er ew s' l l' r y =
           let p = one_of (equals how 0) (equals how 1) (equals how 2) m (λ e. (only how 0 1 (λ z. omega arith) e, only how 0 2 (λ z. omega arith) e)) (only how 1 2 (λ z. omega arith)) (asked (How.Is m) em) in
           y.shuts (Call.Shutdown h how)
-          (live-run n c s h _ lives ∙ rw (p.0, p.1, p.2, sym er, sym ew) refl)
+          (live_run n c s h _ lives ∙ rw (p.0, p.1, p.2, sym er, sym ew) refl)

@@ -13,27 +13,27 @@ use Rattle.storage.specs.declared.Cell.{Cell}
 use Rattle.storage.proofs.Strides.{row_before}
 use Rattle.storage.proofs.Pasted.{part_apart, store-paste, set-paste}
 
-pub around-same : (n c : ℕ) (s : Store) → Around n c s s
-around-same n c s = record { words_long = refl; bytes-long = refl; tokens-long = refl; header = refl; beyond-words = refl; beyond-bytes = refl; beyond-tokens = refl }
+pub around_same : (n c : ℕ) (s : Store) → Around n c s s
+around_same n c s = record { words_long = refl; bytes_long = refl; tokens_long = refl; header = refl; beyond_words = refl; beyond_bytes = refl; beyond_tokens = refl }
 
 pub around_then : {n c : ℕ} {s s' s'' : Store} → Around n c s s' → Around n c s' s'' → Around n c s s''
 around_then a b =
     record {
       words_long = b.words_long ∙ a.words_long;
-      bytes-long = b.bytes-long ∙ a.bytes-long;
-      tokens-long = b.tokens-long ∙ a.tokens-long;
+      bytes_long = b.bytes_long ∙ a.bytes_long;
+      tokens_long = b.tokens_long ∙ a.tokens_long;
       header = b.header ∙ a.header;
-      beyond-words = b.beyond-words ∙ a.beyond-words;
-      beyond-bytes = b.beyond-bytes ∙ a.beyond-bytes;
-      beyond-tokens = b.beyond-tokens ∙ a.beyond-tokens;
+      beyond_words = b.beyond_words ∙ a.beyond_words;
+      beyond_bytes = b.beyond_bytes ∙ a.beyond_bytes;
+      beyond_tokens = b.beyond_tokens ∙ a.beyond_tokens;
     }
 
 -- the storage still has its rows
-pub roomy-around : {n c : ℕ} {s s' : Store} → Around n c s s' → Roomy n c s → Roomy n c s'
-roomy-around a f =
+pub roomy_around : {n c : ℕ} {s s' : Store} → Around n c s s' → Roomy n c s → Roomy n c s'
+roomy_around a f =
     let w = a.words_long in
-    let b = a.bytes-long in
-    let t = a.tokens-long in
+    let b = a.bytes_long in
+    let t = a.tokens_long in
     let fw = f.words in
     let fb = f.bytes in
     let ft = f.tokens in
@@ -52,12 +52,12 @@ module _ (n c : ℕ) (w b t : List ℕ) (f : Roomy n c (lent w b t)) where
       let z = f.words in
       record {
         words_long = length-paste w at s m (omega arith) hs;
-        bytes-long = refl;
-        tokens-long = refl;
+        bytes_long = refl;
+        tokens_long = refl;
         header = part_apart w at s m 0 8 (omega arith) hs (omega arith) (inl (omega arith));
-        beyond-words = behind w at s m (sizes_of n c).words k (omega arith) hs;
-        beyond-bytes = refl;
-        beyond-tokens = refl;
+        beyond_words = behind w at s m (sizes_of n c).words k (omega arith) hs;
+        beyond_bytes = refl;
+        beyond_tokens = refl;
       }
 
   in_bytes : (at : ℕ) (s : List ℕ) (m : ℕ) → at + m ≤ (sizes_of n c).bytes → m ≤ length s → Around n c (lent w b t) (lent w (paste b at s m) t)
@@ -65,42 +65,42 @@ module _ (n c : ℕ) (w b t : List ℕ) (f : Roomy n c (lent w b t)) where
       let z = f.bytes in
       record {
         words_long = refl;
-        bytes-long = length-paste b at s m (omega arith) hs;
-        tokens-long = refl;
+        bytes_long = length-paste b at s m (omega arith) hs;
+        tokens_long = refl;
         header = refl;
-        beyond-words = refl;
-        beyond-bytes = behind b at s m (sizes_of n c).bytes k (omega arith) hs;
-        beyond-tokens = refl;
+        beyond_words = refl;
+        beyond_bytes = behind b at s m (sizes_of n c).bytes k (omega arith) hs;
+        beyond_tokens = refl;
       }
 
   module _ (i : ℕ) (hi : i < n) where
-    pub store-around : (k : Cell) → Around n c (lent w b t) (lent (store_at w i k) b t)
-    store-around k = let z = f.words in rw (store-paste w i k (omega arith)) (in_words (cell_base i) (words_of k) 16 (omega arith) (omega arith) (omega arith))
+    pub store_around : (k : Cell) → Around n c (lent w b t) (lent (store_at w i k) b t)
+    store_around k = let z = f.words in rw (store-paste w i k (omega arith)) (in_words (cell_base i) (words_of k) 16 (omega arith) (omega arith) (omega arith))
 
-    pub places-around : (l : List ℕ) → length l ≡ 256 → Around n c (lent w b t) (lent (paste w (places_base n i) l 256) b t)
-    places-around l e = in_words (places_base n i) l 256 (omega arith) (omega arith) (omega arith)
+    pub places_around : (l : List ℕ) → length l ≡ 256 → Around n c (lent w b t) (lent (paste w (places_base n i) l 256) b t)
+    places_around l e = in_words (places_base n i) l 256 (omega arith) (omega arith) (omega arith)
 
-    pub entry-around : (k h : ℕ) → k < n → Around n c (lent w b t) (lent (set w (queue_base n i + k) h) b t)
-    entry-around k h hk =
+    pub entry_around : (k h : ℕ) → k < n → Around n c (lent w b t) (lent (set w (queue_base n i + k) h) b t)
+    entry_around k h hk =
         let z = f.words in
         let y = row_before n i n hi in
         rw (set-paste w (queue_base n i + k) h (omega arith)) (in_words (queue_base n i + k) (h ∷ []) 1 (omega arith) (omega arith) (omega arith))
 
-    pub ring-around : (l : List ℕ) → length l ≡ c → Around n c (lent w b t) (lent w (paste b (ring_base c i) l c) t)
-    ring-around l e = let y = row_before c i n hi in in_bytes (ring_base c i) l c (omega arith) (omega arith)
+    pub ring_around : (l : List ℕ) → length l ≡ c → Around n c (lent w b t) (lent w (paste b (ring_base c i) l c) t)
+    ring_around l e = let y = row_before c i n hi in in_bytes (ring_base c i) l c (omega arith) (omega arith)
 
-    pub room-around : (m : List ℕ) (k : ℕ) → k ≤ length m → k ≤ 255 → Around n c (lent w b t) (lent w (paste b (name_base n c i) m k) t)
-    room-around m k h hk = in_bytes (name_base n c i) m k (omega arith) h
+    pub room_around : (m : List ℕ) (k : ℕ) → k ≤ length m → k ≤ 255 → Around n c (lent w b t) (lent w (paste b (name_base n c i) m k) t)
+    room_around m k h hk = in_bytes (name_base n c i) m k (omega arith) h
 
-    pub tokens-around : (l : List ℕ) → length l ≡ 256 → Around n c (lent w b t) (lent w b (paste t (tokens_base i) l 256))
-    tokens-around l e =
+    pub tokens_around : (l : List ℕ) → length l ≡ 256 → Around n c (lent w b t) (lent w b (paste t (tokens_base i) l 256))
+    tokens_around l e =
         let z = f.tokens in
         record {
           words_long = refl;
-          bytes-long = refl;
-          tokens-long = length-paste t (tokens_base i) l 256 (omega arith) (omega arith);
+          bytes_long = refl;
+          tokens_long = length-paste t (tokens_base i) l 256 (omega arith) (omega arith);
           header = refl;
-          beyond-words = refl;
-          beyond-bytes = refl;
-          beyond-tokens = behind t (tokens_base i) l 256 (sizes_of n c).tokens (omega arith) (omega arith) (omega arith);
+          beyond_words = refl;
+          beyond_bytes = refl;
+          beyond_tokens = behind t (tokens_base i) l 256 (sizes_of n c).tokens (omega arith) (omega arith) (omega arith);
         }

@@ -18,28 +18,28 @@ use Rattle.storage.specs.declared.State.TheVariants.{Closed, Unbound, Bound, Lis
 -- ── A tag is one of five ──
 
 module _ (k : Cell) where
-  pub says-unbound : k.tag ≡ 1 → Unbound ≡ state_of k
+  pub says_unbound : k.tag ≡ 1 → Unbound ≡ state_of k
   unfolding state_of
-  says-unbound e = rw e
+  says_unbound e = rw e
 
-  pub says-bound : k.tag ≡ 2 → Bound k.name ≡ state_of k
+  pub says_bound : k.tag ≡ 2 → Bound k.name ≡ state_of k
   unfolding state_of
-  says-bound e = rw e
+  says_bound e = rw e
 
-  pub says-listening : k.tag ≡ 3 → Listening (listener_of k) ≡ state_of k
+  pub says_listening : k.tag ≡ 3 → Listening (listener_of k) ≡ state_of k
   unfolding state_of
-  says-listening e = rw e
+  says_listening e = rw e
 
-  pub says-listener : (l : Listener) → k.tag ≡ 3 → l ≡ listener_of k → Listening l ≡ state_of k
-  says-listener l e z = ap Listening z ∙ says-listening e
+  pub says_listener : (l : Listener) → k.tag ≡ 3 → l ≡ listener_of k → Listening l ≡ state_of k
+  says_listener l e z = ap Listening z ∙ says_listening e
 
-  pub says-connected : (r : Connection) → k.tag ≡ 4 → r ≡ connection_of k → Connected r ≡ state_of k
+  pub says_connected : (r : Connection) → k.tag ≡ 4 → r ≡ connection_of k → Connected r ≡ state_of k
   unfolding state_of
-  says-connected r e z = ap Connected z ∙ rw e
+  says_connected r e z = ap Connected z ∙ rw e
 
-  pub says-closed : k.tag ≢ 1 → k.tag ≢ 2 → k.tag ≢ 3 → k.tag ≢ 4 → Closed ≡ state_of k
+  pub says_closed : k.tag ≢ 1 → k.tag ≢ 2 → k.tag ≢ 3 → k.tag ≢ 4 → Closed ≡ state_of k
   unfolding state_of
-  says-closed a b c d = rw (ne_eqb k.tag 1 a, ne_eqb k.tag 2 b, ne_eqb k.tag 3 c, ne_eqb k.tag 4 d)
+  says_closed a b c d = rw (ne_eqb k.tag 1 a, ne_eqb k.tag 2 b, ne_eqb k.tag 3 c, ne_eqb k.tag 4 d)
 
 -- ── load and store ──
 
@@ -53,17 +53,17 @@ loaded w i k s e z = ap₂ (λ (g : ℕ) (x : State). record { generation = g; s
 
 -- the slot that was loaded is that of j
 module _ (w : List ℕ) {i j : ℕ} {s : Slot} (e : i ≡ j) (z : s ≡ loaded_at w i) where
-  pub loaded-generation : s.generation ≡ (cell_at w j).generation
-  loaded-generation = ap (λ (x : Slot). x.generation) z ∙ ap (λ (x : ℕ). (cell_at w x).generation) e
+  pub loaded_generation : s.generation ≡ (cell_at w j).generation
+  loaded_generation = ap (λ (x : Slot). x.generation) z ∙ ap (λ (x : ℕ). (cell_at w x).generation) e
 
-  pub loaded-state : s.state ≡ state_of (cell_at w j)
-  loaded-state = ap (λ (x : Slot). x.state) z ∙ ap (λ (x : ℕ). state_of (cell_at w x)) e
+  pub loaded_state : s.state ≡ state_of (cell_at w j)
+  loaded_state = ap (λ (x : Slot). x.state) z ∙ ap (λ (x : ℕ). state_of (cell_at w x)) e
 
 pub flag_is : (b : Bool) → bool_byte b ≡ flag b
 flag_is true = refl
 flag_is false = refl
 
-pub connected-is : (g : ℕ) (c : Connection) → ◌≡◌ {A = Cell}
+pub connected_is : (g : ℕ) (c : Connection) → ◌≡◌ {A = Cell}
     (record {
       generation = g;
       tag = 4;
@@ -83,28 +83,28 @@ pub connected-is : (g : ℕ) (c : Connection) → ◌≡◌ {A = Cell}
       place = c.place;
     })
     (connected_cell g c)
-connected-is g c = rw (flag_is c.inbox_closed, flag_is c.outbox_closed)
+connected_is g c = rw (flag_is c.inbox_closed, flag_is c.outbox_closed)
 
 module _ (s : Slot) (r : Cell) where
-  pub as-closed : s.state ≡ Closed → r ≡ plain_cell s.generation 0 0 → r ≡ cell_of s.generation s.state
+  pub as_closed : s.state ≡ Closed → r ≡ plain_cell s.generation 0 0 → r ≡ cell_of s.generation s.state
   unfolding cell_of
-  as-closed e h = h ∙ rw e
+  as_closed e h = h ∙ rw e
 
-  pub as-unbound : s.state ≡ Unbound → r ≡ plain_cell s.generation 1 0 → r ≡ cell_of s.generation s.state
+  pub as_unbound : s.state ≡ Unbound → r ≡ plain_cell s.generation 1 0 → r ≡ cell_of s.generation s.state
   unfolding cell_of
-  as-unbound e h = h ∙ rw e
+  as_unbound e h = h ∙ rw e
 
-  pub as-bound : (m : ℕ) → s.state ≡ Bound m → r ≡ plain_cell s.generation 2 m → r ≡ cell_of s.generation s.state
+  pub as_bound : (m : ℕ) → s.state ≡ Bound m → r ≡ plain_cell s.generation 2 m → r ≡ cell_of s.generation s.state
   unfolding cell_of
-  as-bound m e h = h ∙ rw e
+  as_bound m e h = h ∙ rw e
 
-  pub as-listening : (l : Listener) → s.state ≡ Listening l → r ≡ listening_cell s.generation l → r ≡ cell_of s.generation s.state
+  pub as_listening : (l : Listener) → s.state ≡ Listening l → r ≡ listening_cell s.generation l → r ≡ cell_of s.generation s.state
   unfolding cell_of
-  as-listening l e h = h ∙ rw e
+  as_listening l e h = h ∙ rw e
 
-  pub as-connected : (c : Connection) → s.state ≡ Connected c → r ≡ connected_cell s.generation c → r ≡ cell_of s.generation s.state
+  pub as_connected : (c : Connection) → s.state ≡ Connected c → r ≡ connected_cell s.generation c → r ≡ cell_of s.generation s.state
   unfolding cell_of
-  as-connected c e h = h ∙ rw e
+  as_connected c e h = h ∙ rw e
 
 -- ── There and back ──
 
@@ -122,21 +122,21 @@ back g (Connected c) =
     ap₂ (λ (x y : Bool). Connected (record { peer = c.peer; inbox = c.inbox; inbox_closed = x; outbox_closed = y; waits = c.waits; place = c.place }))
     (set-flag c.inbox_closed) (set-flag c.outbox_closed)
 
-pub back-gen : (g : ℕ) (σ : State) → (cell_of g σ).generation ≡ g
+pub back_gen : (g : ℕ) (σ : State) → (cell_of g σ).generation ≡ g
 unfolding cell_of
-back-gen g Closed = refl
-back-gen g Unbound = refl
-back-gen g (Bound m) = refl
-back-gen g (Listening l) = refl
-back-gen g (Connected c) = refl
+back_gen g Closed = refl
+back_gen g Unbound = refl
+back_gen g (Bound m) = refl
+back_gen g (Listening l) = refl
+back_gen g (Connected c) = refl
 
 pub stored : (w w' : List ℕ) (i : ℕ) (k : Cell) (s : Slot) → k ≡ cell_of s.generation s.state → w' ≡ store_at w i k → w' ≡ store_at w i (cell_of s.generation s.state)
 stored w w' i k s e h = h ∙ ap (store_at w i) e
 
 -- ── What a state holds ──
 
-pub listening-inj : {a b : Listener} → Listening a ≡ Listening b → a ≡ b
-listening-inj {a} {b} e = ap (of a) e
+pub listening_inj : {a b : Listener} → Listening a ≡ Listening b → a ≡ b
+listening_inj {a} {b} e = ap (of a) e
   where
     of : Listener → State → Listener
     of d Closed = d
@@ -145,8 +145,8 @@ listening-inj {a} {b} e = ap (of a) e
     of d (Listening q) = q
     of d (Connected k) = d
 
-pub connected-inj : {a b : Connection} → Connected a ≡ Connected b → a ≡ b
-connected-inj {a} {b} e = ap (of a) e
+pub connected_inj : {a b : Connection} → Connected a ≡ Connected b → a ≡ b
+connected_inj {a} {b} e = ap (of a) e
   where
     of : Connection → State → Connection
     of d Closed = d

@@ -11,10 +11,10 @@ use lib.Dec.{eqb, ltb}
 use lib.ListN.{length, take, drop, get_or}
 use lib.Seq.{take-take, take_all}
 use borrow.Author.Tests.{lt-ltb, le-ltb, ltb-true, eq-eqb, ne_eqb, not-true, not-false}
-use Rattle.laws.proofs.Tests.{less-or, and-three}
+use Rattle.laws.proofs.Tests.{less_or, and_three}
 use Rattle.le.specs.Le.{le}
 use Rattle.rules.specs.Table.{slot_of, handle, same}
-use Rattle.rules.proofs.Wf.{same_refl, same-eq}
+use Rattle.rules.proofs.Wf.{same_refl, same_eq}
 use Rattle.storage.specs.Layout.{part, cell_base}
 use Rattle.storage.specs.Cells.{cell_at, state_of, connection_of}
 use Rattle.storage.specs.Finding.{least, occupied, waiting, open_in, live_in, free_cell, named, holds_cell}
@@ -24,7 +24,7 @@ use Rattle.storage.specs.declared.State.TheVariants.{Closed, Unbound, Connected}
 use Rattle.storage.specs.declared.Connection.{Connection}
 use Rattle.storage.specs.declared.Slot.{Slot}
 use Rattle.storage.proofs.Pasted.{length_part}
-use Rattle.storage.proofs.Coding.{loaded-generation, loaded-state, loaded_at}
+use Rattle.storage.proofs.Coding.{loaded_generation, loaded_state, loaded_at}
 
 -- ── The least that passes ──
 
@@ -34,10 +34,10 @@ least_at zero p i h e f = absurd (not-suc-le-zero h)
 least_at (suc n) p zero h e f = rw e
 least_at (suc n) p (suc i) h e f = rw (f zero (omega arith)) (ap suc (least_at n (λ k. p (suc k)) i (omega arith) e (λ j l. f (suc j) (omega arith))))
 
-pub least-none : (n : ℕ) (p : ℕ → Bool) → ((j : ℕ) → j < n → p j ≡ false) → least n p ≡ n
+pub least_none : (n : ℕ) (p : ℕ → Bool) → ((j : ℕ) → j < n → p j ≡ false) → least n p ≡ n
 unfolding least
-least-none zero p f = refl
-least-none (suc n) p f = rw (f zero (omega arith)) (ap suc (least-none n (λ k. p (suc k)) (λ j l. f (suc j) (omega arith))))
+least_none zero p f = refl
+least_none (suc n) p f = rw (f zero (omega arith)) (ap suc (least_none n (λ k. p (suc k)) (λ j l. f (suc j) (omega arith))))
 
 -- a search that has come to i: none before it
 pub record NoneBefore (p : ℕ → Bool) (i : ℕ) : Type 0 where
@@ -57,53 +57,53 @@ pub found_at : (n : ℕ) (p : ℕ → Bool) (i : ℕ) (r : Bool) → i < n → N
 found_at n p i r h b e t = sym (least_at n p i h (sym e ∙ t) b.none)
 
 pub found_none : (n : ℕ) (p : ℕ → Bool) (i : ℕ) → n ≤ i → i ≤ n → NoneBefore p i → n ≡ least n p
-found_none n p i h k b = sym (least-none n p (λ j l. b.none j (omega arith)))
+found_none n p i h k b = sym (least_none n p (λ j l. b.none j (omega arith)))
 
 -- ── Handles ──
 
-gen-slot : (g h : ℕ) → eqb (handle g (slot_of h)) h ≡ eqb g (h / 65536)
-gen-slot g h =
+gen_slot : (g h : ℕ) → eqb (handle g (slot_of h)) h ≡ eqb g (h / 65536)
+gen_slot g h =
     elim (dec_eq g (h / 65536)) [
       | yes e ↦ let z : g * 65536 + h % 65536 ≡ h = omega arith in eq-eqb (handle g (slot_of h)) h z ∙ sym (eq-eqb g (h / 65536) e)
       | no ne ↦ ne_eqb (handle g (slot_of h)) h (λ z. ne (omega arith)) ∙ sym (ne_eqb g (h / 65536) ne)
     ]
 
 module _ (n : ℕ) (w : List ℕ) (h i : ℕ) (ei : i ≡ slot_of h) where
-  pub open-out : n ≤ i → false ≡ open_in n w h
+  pub open_out : n ≤ i → false ≡ open_in n w h
   unfolding open_in
-  open-out l = rw (le-ltb (slot_of h) n (omega arith))
+  open_out l = rw (le-ltb (slot_of h) n (omega arith))
 
-  pub open-stale : (s : Slot) → s ≡ loaded_at w i → i < n → (s.generation ≡ h / 65536 → ⊥) → false ≡ open_in n w h
+  pub open_stale : (s : Slot) → s ≡ loaded_at w i → i < n → (s.generation ≡ h / 65536 → ⊥) → false ≡ open_in n w h
   unfolding open_in
-  open-stale s es l ne =
-      let g : s.generation ≡ (cell_at w (slot_of h)).generation = loaded-generation w ei es in
-      rw (lt-ltb (slot_of h) n (omega arith), gen-slot (cell_at w (slot_of h)).generation h, ne_eqb (cell_at w (slot_of h)).generation (h / 65536) (λ z. ne (g ∙ z)))
+  open_stale s es l ne =
+      let g : s.generation ≡ (cell_at w (slot_of h)).generation = loaded_generation w ei es in
+      rw (lt-ltb (slot_of h) n (omega arith), gen_slot (cell_at w (slot_of h)).generation h, ne_eqb (cell_at w (slot_of h)).generation (h / 65536) (λ z. ne (g ∙ z)))
 
-  pub open-by-state : (s : Slot) (r : Bool) → s ≡ loaded_at w i → i < n → s.generation ≡ h / 65536 → r ≡ occupied s.state → r ≡ open_in n w h
+  pub open_by_state : (s : Slot) (r : Bool) → s ≡ loaded_at w i → i < n → s.generation ≡ h / 65536 → r ≡ occupied s.state → r ≡ open_in n w h
   unfolding open_in
-  open-by-state s r es l eg er =
-      let g : (cell_at w (slot_of h)).generation ≡ h / 65536 = sym (loaded-generation w ei es) ∙ eg in
-      er ∙ ap occupied (loaded-state w ei es)
-      ∙ rw (lt-ltb (slot_of h) n (omega arith), gen-slot (cell_at w (slot_of h)).generation h, eq-eqb (cell_at w (slot_of h)).generation (h / 65536) g)
+  open_by_state s r es l eg er =
+      let g : (cell_at w (slot_of h)).generation ≡ h / 65536 = sym (loaded_generation w ei es) ∙ eg in
+      er ∙ ap occupied (loaded_state w ei es)
+      ∙ rw (lt-ltb (slot_of h) n (omega arith), gen_slot (cell_at w (slot_of h)).generation h, eq-eqb (cell_at w (slot_of h)).generation (h / 65536) g)
 
 pub not_live : (n : ℕ) (w : List ℕ) (h : ℕ) (r : Bool) → r ≡ open_in n w h → not r ≡ true → false ≡ live_in n w h
 unfolding live_in
 not_live n w h r e t = rw (sym e ∙ not-true r t)
 
-pub live-by-state : (n : ℕ) (w : List ℕ) (h i : ℕ) (o : Bool) (s : Slot) (r : Bool) → o ≡ open_in n w h → not o ≡ false → i ≡ slot_of h
+pub live_by_state : (n : ℕ) (w : List ℕ) (h i : ℕ) (o : Bool) (s : Slot) (r : Bool) → o ≡ open_in n w h → not o ≡ false → i ≡ slot_of h
     → s ≡ loaded_at w i → r ≡ waiting s.state → not r ≡ live_in n w h
 unfolding live_in
-live-by-state n w h i o s r eo t ei es er =
-    ap not (er ∙ ap waiting (loaded-state w ei es)) ∙ rw (sym eo ∙ not-false o t)
+live_by_state n w h i o s r eo t ei es er =
+    ap not (er ∙ ap waiting (loaded_state w ei es)) ∙ rw (sym eo ∙ not-false o t)
 
 -- an open handle's slot is one of n
-pub open-slot : (n : ℕ) (w : List ℕ) (h : ℕ) → open_in n w h ≡ true → slot_of h < n
+pub open_slot : (n : ℕ) (w : List ℕ) (h : ℕ) → open_in n w h ≡ true → slot_of h < n
 unfolding open_in
-open-slot n w h e = ltb-true (slot_of h) n (and-three (ltb (slot_of h) n) _ _ e).0
+open_slot n w h e = ltb-true (slot_of h) n (and_three (ltb (slot_of h) n) _ _ e).0
 
-pub open-used-in : (n : ℕ) (w : List ℕ) (h : ℕ) → open_in n w h ≡ true → occupied (state_of (cell_at w (slot_of h))) ≡ true
+pub open_used_in : (n : ℕ) (w : List ℕ) (h : ℕ) → open_in n w h ≡ true → occupied (state_of (cell_at w (slot_of h))) ≡ true
 unfolding open_in
-open-used-in n w h e = (and-three (ltb (slot_of h) n) (eqb (handle (cell_at w (slot_of h)).generation (slot_of h)) h) (occupied (state_of (cell_at w (slot_of h)))) e).2
+open_used_in n w h e = (and_three (ltb (slot_of h) n) (eqb (handle (cell_at w (slot_of h)).generation (slot_of h)) h) (occupied (state_of (cell_at w (slot_of h)))) e).2
 
 -- ── Free slots ──
 
@@ -111,32 +111,32 @@ pub not_free : (k : Cell) (σ : State) (r : Bool) → σ ≡ state_of k → r �
 unfolding free_cell
 not_free k σ r es er t = rw (sym (ap occupied es) ∙ sym er ∙ t)
 
-pub free-by-generation : (k : Cell) (σ : State) (r : Bool) → σ ≡ state_of k → r ≡ occupied σ → r ≡ false → ltb k.generation 4294967295 ≡ free_cell k
+pub free_by_generation : (k : Cell) (σ : State) (r : Bool) → σ ≡ state_of k → r ≡ occupied σ → r ≡ false → ltb k.generation 4294967295 ≡ free_cell k
 unfolding free_cell
-free-by-generation k σ r es er t = rw (sym (ap occupied es) ∙ sym er ∙ t)
+free_by_generation k σ r es er t = rw (sym (ap occupied es) ∙ sym er ∙ t)
 
 -- ── Names ──
 
-pub same-is : (a b : List ℕ) (r : Bool) → (r ≡ true → a ≡ b) × (a ≡ b → r ≡ true) → r ≡ same a b
-same-is a b r f = go r (same a b) refl refl
+pub same_is : (a b : List ℕ) (r : Bool) → (r ≡ true → a ≡ b) × (a ≡ b → r ≡ true) → r ≡ same a b
+same_is a b r f = go r (same a b) refl refl
   where
     go : (x y : Bool) → r ≡ x → same a b ≡ y → r ≡ same a b
     go true y e d = e ∙ sym (ap (same a) (sym (f.0 e)) ∙ same_refl a)
-    go false true e d = absurd (false≢true (sym e ∙ f.1 (same-eq a b d)))
+    go false true e d = absurd (false≢true (sym e ∙ f.1 (same_eq a b d)))
     go false false e d = e ∙ sym d
 
 pub apart : (a b : List ℕ) → (a ≡ b → ⊥) → false ≡ same a b
 apart a b ne = go (same a b) refl
   where
     go : (x : Bool) → same a b ≡ x → false ≡ same a b
-    go true e = absurd (ne (same-eq a b e))
+    go true e = absurd (ne (same_eq a b e))
     go false e = sym e
 
 pub other_length : (a b : List ℕ) → (length a ≡ length b → ⊥) → false ≡ same a b
 other_length a b ne = apart a b (λ e. ne (ap length e))
 
-pub other-bytes : (a b : List ℕ) (p x y : ℕ) → x ≡ le 8 a p → y ≡ le 8 b p → (x ≡ y → ⊥) → false ≡ same a b
-other-bytes a b p x y ex ey ne = apart a b (λ e. ne (ex ∙ ap (λ (l : List ℕ). le 8 l p) e ∙ sym ey))
+pub other_bytes : (a b : List ℕ) (p x y : ℕ) → x ≡ le 8 a p → y ≡ le 8 b p → (x ≡ y → ⊥) → false ≡ same a b
+other_bytes a b p x y ex ey ne = apart a b (λ e. ne (ex ∙ ap (λ (l : List ℕ). le 8 l p) e ∙ sym ey))
 
 -- no name, of the five tags
 not_named : (k : Cell) → (k.tag ≡ 2 → ⊥) → (k.tag ≡ 3 → ⊥) → named (state_of k) ≡ false
@@ -148,16 +148,16 @@ not_named k n2 n3 = rw (ne_eqb k.tag 2 n2, ne_eqb k.tag 3 n3) (go (eqb k.tag 1) 
     go false true = refl
     go false false = refl
 
-pub low-tag : (w : List ℕ) (i : ℕ) (room m : List ℕ) → get_or w (cell_base i + 1) 0 < 2 → false ≡ holds_cell (cell_at w i) room m
+pub low_tag : (w : List ℕ) (i : ℕ) (room m : List ℕ) → get_or w (cell_base i + 1) 0 < 2 → false ≡ holds_cell (cell_at w i) room m
 unfolding holds_cell cell_at
-low-tag w i room m h = rw (not_named (cell_at w i) (λ e. omega arith) (λ e. omega arith))
+low_tag w i room m h = rw (not_named (cell_at w i) (λ e. omega arith) (λ e. omega arith))
 
-pub high-tag : (w : List ℕ) (i : ℕ) (room m : List ℕ) → 3 < get_or w (cell_base i + 1) 0 → false ≡ holds_cell (cell_at w i) room m
+pub high_tag : (w : List ℕ) (i : ℕ) (room m : List ℕ) → 3 < get_or w (cell_base i + 1) 0 → false ≡ holds_cell (cell_at w i) room m
 unfolding holds_cell cell_at
-high-tag w i room m h = rw (not_named (cell_at w i) (λ e. omega arith) (λ e. omega arith))
+high_tag w i room m h = rw (not_named (cell_at w i) (λ e. omega arith) (λ e. omega arith))
 
 pub room_take : (a z : ℕ) (l : List ℕ) → a + 255 ≤ length l → take z (part a 255 l) ≡ part a (min z 255) l
-room_take a z l h = go (less-or z 255)
+room_take a z l h = go (less_or z 255)
   where
     go : (z < 255) ⊎ (255 ≤ z) → take z (part a 255 l) ≡ part a (min z 255) l
     go (inl x) = let e : min z 255 ≡ z = omega arith in take-take z 255 (drop a l) (omega arith) ∙ ap (λ (k : ℕ). part a k l) (sym e)
@@ -171,12 +171,12 @@ by_name k room m o l h e = go (dec_eq k.tag 2)
     go (yes z) = rw z e
     go (no z) = let x : k.tag ≡ 3 = omega arith in rw x e
 
-pub holds-by-name : (w : List ℕ) (i : ℕ) (b m : List ℕ) (o : Bool) (x a : ℕ) → a + 255 ≤ length b → 2 ≤ get_or w (cell_base i + 1) 0 → get_or w (cell_base i + 1) 0 ≤ 3
+pub holds_by_name : (w : List ℕ) (i : ℕ) (b m : List ℕ) (o : Bool) (x a : ℕ) → a + 255 ≤ length b → 2 ≤ get_or w (cell_base i + 1) 0 → get_or w (cell_base i + 1) 0 ≤ 3
     → x ≡ min (get_or w (cell_base i + 2) 0) 255 → o ≡ same (part a (a + x - a) b) m → o ≡ holds_cell (cell_at w i) (part a 255 b) m
 unfolding cell_at
-holds-by-name w i b m o x a hb l h ex eo =
+holds_by_name w i b m o x a hb l h ex eo =
     let e : a + x - a ≡ min (get_or w (cell_base i + 2) 0) 255 = omega arith in
     by_name (cell_at w i) (part a 255 b) m o l h (eo ∙ ap (λ (y : List ℕ). same y m) (ap (λ (y : ℕ). part a y b) e ∙ sym (room_take a (get_or w (cell_base i + 2) 0) b hb)))
 
-pub waiting-is : (σ : State) (k : Connection) → σ ≡ Connected k → not (eqb k.waits 0) ≡ waiting σ
-waiting-is σ k e = rw e
+pub waiting_is : (σ : State) (k : Connection) → σ ≡ Connected k → not (eqb k.waits 0) ≡ waiting σ
+waiting_is σ k e = rw e

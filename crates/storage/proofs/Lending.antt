@@ -18,7 +18,7 @@ use Rattle.storage.specs.Layout.{part, places_base, ring_base, tokens_base}
 use Rattle.storage.specs.Rows.{lent, Roomy}
 use Rattle.storage.specs.Inboxes.{PushesAt}
 use Rattle.storage.proofs.Rooms.{Rooms, rooms}
-use Rattle.storage.proofs.Pasted.{length_part, part-here}
+use Rattle.storage.proofs.Pasted.{length_part, part_here}
 
 -- the length of `a..a + k` as the code has it
 pub span : (a k : ℕ) → a + k - a ≡ k
@@ -33,14 +33,14 @@ mid-paste l ys a k e =
 
 -- ── An inbox's rings ──
 
-pub well-at : (c p : ℕ) (w : List ℕ) (q : Inbox) (r : Bool) → r ≡ is_well c (part p (p + 256 - p) w) q → r ≡ is_well c (part p 256 w) q
-well-at c p w q r e = e ∙ ap (λ (k : ℕ). is_well c (part p k w) q) (span p 256)
+pub well_at : (c p : ℕ) (w : List ℕ) (q : Inbox) (r : Bool) → r ≡ is_well c (part p (p + 256 - p) w) q → r ≡ is_well c (part p 256 w) q
+well_at c p w q r e = e ∙ ap (λ (k : ℕ). is_well c (part p k w) q) (span p 256)
 
 pub length-lent : (l : List ℕ) (a k : ℕ) → a + k ≤ length l → length (part a (a + k - a) l) ≡ k
 length-lent l a k h = ap (λ (x : ℕ). length (part a x l)) (span a k) ∙ length_part a k l h
 
-pub discards-at : (c a at : ℕ) (t releases releases' : List ℕ) (q : Inbox) (r : Discarded) → Discards c (part a (a + 256 - a) t) releases releases' at q r → Discards c (part a 256 t) releases releases' at q r
-discards-at c a at t releases releases' q r d = rw (span a 256) at d
+pub discards_at : (c a at : ℕ) (t releases releases' : List ℕ) (q : Inbox) (r : Discarded) → Discards c (part a (a + 256 - a) t) releases releases' at q r → Discards c (part a 256 t) releases releases' at q r
+discards_at c a at t releases releases' q r d = rw (span a 256) at d
 
 pub takes_at : (bytes words tokens buf buf' : List ℕ) (policy : Policy) (items items' releases releases' : List ℕ) (a c p t : ℕ) (q : Inbox) (r : Taken)
     → Takes (part a (a + c - a) bytes) (part p (p + 256 - p) words) (part t (t + 256 - t) tokens) buf buf' policy items items' releases releases' q r
@@ -54,8 +54,8 @@ pub may-take : {n c i : ℕ} {w b t : List ℕ} {q : Inbox} (releases : List ℕ
     × (length (part (tokens_base i) (tokens_base i + 256 - tokens_base i) t) ≡ 256) × (256 ≤ length releases)))
 may-take {n} {c} {i} {w} {b} {t} releases h r k well =
     let at = rooms h r in
-    let lr = length-lent b (ring_base c i) c at.ring-to in
-    (rw (span (places_base n i) 256, lr) well, (rw lr r.small, length-lent w (places_base n i) 256 at.places-to, length-lent t (tokens_base i) 256 at.tokens-to, k))
+    let lr = length-lent b (ring_base c i) c at.ring_to in
+    (rw (span (places_base n i) 256, lr) well, (rw lr r.small, length-lent w (places_base n i) 256 at.places_to, length-lent t (tokens_base i) 256 at.tokens_to, k))
 
 -- what an inbox's push asks of the lent parts
 pub may-push : {n c i : ℕ} {w b t : List ℕ} {q : Inbox} (buf items : List ℕ) → i < n → Roomy n c (lent w b t) → Well c (part (places_base n i) 256 w) q → MayPush c q buf items
@@ -65,12 +65,12 @@ pub may-push : {n c i : ℕ} {w b t : List ℕ} {q : Inbox} (buf items : List �
     × MayPush (length (part (ring_base c i) (ring_base c i + c - ring_base c i) b)) q buf items))
 may-push {n} {c} {i} {w} {b} {t} {q} buf items h r well may =
     let at = rooms h r in
-    let lr = length-lent b (ring_base c i) c at.ring-to in
-    let lp = length-lent w (places_base n i) 256 at.places-to in
-    let lt = length-lent t (tokens_base i) 256 at.tokens-to in
+    let lr = length-lent b (ring_base c i) c at.ring_to in
+    let lp = length-lent w (places_base n i) 256 at.places_to in
+    let lt = length-lent t (tokens_base i) 256 at.tokens_to in
     (rw (span (places_base n i) 256, lr) well, ((rw lr r.small, lp, lt), rw lr may))
 
-pub pushes-at : {n c i : ℕ} {w b t buf items ps rs ts : List ℕ} {q : Inbox} {r : Pushed} → Rooms n c i (lent w b t)
+pub pushes_at : {n c i : ℕ} {w b t buf items ps rs ts : List ℕ} {q : Inbox} {r : Pushed} → Rooms n c i (lent w b t)
     → length ps ≡ length (part (places_base n i) (places_base n i + 256 - places_base n i) w)
     → length rs ≡ length (part (ring_base c i) (ring_base c i + c - ring_base c i) b)
     → length ts ≡ length (part (tokens_base i) (tokens_base i + 256 - tokens_base i) t)
@@ -79,23 +79,23 @@ pub pushes-at : {n c i : ℕ} {w b t buf items ps rs ts : List ℕ} {q : Inbox} 
     → PushesAt n c i (lent w b t)
     (lent (put_mid (places_base n i) (places_base n i + 256 - places_base n i) w ps) (put_mid (ring_base c i) (ring_base c i + c - ring_base c i) b rs)
     (put_mid (tokens_base i) (tokens_base i + 256 - tokens_base i) t ts)) buf items q r
-pushes-at {n} {c} {i} {w} {b} {t} {buf} {items} {ps} {rs} {ts} {q} {r} at lp lr lt x =
-    let hw = at.places-to in
-    let hb = at.ring-to in
-    let ht = at.tokens-to in
+pushes_at {n} {c} {i} {w} {b} {t} {buf} {items} {ps} {rs} {ts} {q} {r} at lp lr lt x =
+    let hw = at.places_to in
+    let hb = at.ring_to in
+    let ht = at.tokens_to in
     let lp' : length ps ≡ 256 = lp ∙ length-lent w (places_base n i) 256 hw in
     let lr' : length rs ≡ c = lr ∙ length-lent b (ring_base c i) c hb in
     let lt' : length ts ≡ 256 = lt ∙ length-lent t (tokens_base i) 256 ht in
     let pw = mid-paste w ps (places_base n i) 256 lp' in
     let pb = mid-paste b rs (ring_base c i) c lr' in
     let pt = mid-paste t ts (tokens_base i) 256 lt' in
-    let hp = part-here w (places_base n i) ps 256 hw lp' in
-    let hr = part-here b (ring_base c i) rs c hb lr' in
-    let ht' = part-here t (tokens_base i) ts 256 ht lt' in
+    let hp = part_here w (places_base n i) ps 256 hw lp' in
+    let hr = part_here b (ring_base c i) rs c hb lr' in
+    let ht' = part_here t (tokens_base i) ts 256 ht lt' in
     rw (pw, pb, pt)
     (record {
       pushes = rw (hp, hr, ht') (rw (span (ring_base c i) c, span (places_base n i) 256, span (tokens_base i) 256) at x);
       in_words = rw hp;
       in_bytes = rw hr;
-      in-tokens = rw ht';
+      in_tokens = rw ht';
     })

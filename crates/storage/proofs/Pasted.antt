@@ -37,9 +37,9 @@ part_apart d at s n a k hd hs ha o =
     which (inr x) j h = paste-behind d at s n hd hs (a + j) (omega arith)
 
 -- what lies around it: a store inside a part is a store in that part
-pub part-within : (d : List ℕ) (at : ℕ) (s : List ℕ) (n a k i : ℕ) → n ≤ length s → a + k ≤ length d → at ≡ a + i → i + n ≤ k
+pub part_within : (d : List ℕ) (at : ℕ) (s : List ℕ) (n a k i : ℕ) → n ≤ length s → a + k ≤ length d → at ≡ a + i → i + n ≤ k
     → part a k (paste d at s n) ≡ paste (part a k d) i s n
-part-within d at s n a k i hs ha e h =
+part_within d at s n a k i hs ha e h =
     let hd : at + n ≤ length d = omega arith in
     let l = length-paste d at s n hd hs in
     let lp = length_part a k d ha in
@@ -56,8 +56,8 @@ part-within d at s n a k i hs ha e h =
     (λ out. paste-behind d at s n hd hs (a + j) (omega arith) ∙ sym (paste-behind (part a k d) i s n (omega arith) hs j out ∙ part_at a k d j hj'))))
 
 -- the part itself
-pub part-here : (d : List ℕ) (a : ℕ) (s : List ℕ) (k : ℕ) → a + k ≤ length d → length s ≡ k → part a k (paste d a s k) ≡ s
-part-here d a s k hd hs =
+pub part_here : (d : List ℕ) (a : ℕ) (s : List ℕ) (k : ℕ) → a + k ≤ length d → length s ≡ k → part a k (paste d a s k) ≡ s
+part_here d a s k hd hs =
     let l = length-paste d a s k hd (omega arith) in
     ext_get_or 0 (part a k (paste d a s k)) s (length_part a k (paste d a s k) (omega arith) ∙ sym hs)
     (λ j hj.
@@ -87,8 +87,8 @@ of a b c d e f g h i j k l m n o p =
 abbrev cell_by : (ℕ → ℕ) → Cell
 cell_by p = of (p 0) (p 1) (p 2) (p 3) (p 4) (p 5) (p 6) (p 7) (p 8) (p 9) (p 10) (p 11) (p 12) (p 13) (p 14) (p 15)
 
-word-by-word : (p q : ℕ → ℕ) → ((k : ℕ) → k < 16 → p k ≡ q k) → cell_by p ≡ cell_by q
-word-by-word p q e =
+word_by_word : (p q : ℕ → ℕ) → ((k : ℕ) → k < 16 → p k ≡ q k) → cell_by p ≡ cell_by q
+word_by_word p q e =
     ap (λ (x : ℕ). of x (p 1) (p 2) (p 3) (p 4) (p 5) (p 6) (p 7) (p 8) (p 9) (p 10) (p 11) (p 12) (p 13) (p 14) (p 15)) (e 0 (omega arith))
     ∙ ap (λ (x : ℕ). of (q 0) x (p 2) (p 3) (p 4) (p 5) (p 6) (p 7) (p 8) (p 9) (p 10) (p 11) (p 12) (p 13) (p 14) (p 15)) (e 1 (omega arith))
     ∙ ap (λ (x : ℕ). of (q 0) (q 1) x (p 3) (p 4) (p 5) (p 6) (p 7) (p 8) (p 9) (p 10) (p 11) (p 12) (p 13) (p 14) (p 15)) (e 2 (omega arith))
@@ -106,21 +106,21 @@ word-by-word p q e =
     ∙ ap (λ (x : ℕ). of (q 0) (q 1) (q 2) (q 3) (q 4) (q 5) (q 6) (q 7) (q 8) (q 9) (q 10) (q 11) (q 12) (q 13) x (p 15)) (e 14 (omega arith))
     ∙ ap (λ (x : ℕ). of (q 0) (q 1) (q 2) (q 3) (q 4) (q 5) (q 6) (q 7) (q 8) (q 9) (q 10) (q 11) (q 12) (q 13) (q 14) x) (e 15 (omega arith))
 
-pub same-cell : (w w' : List ℕ) (i : ℕ) → ((k : ℕ) → k < 16 → get_or w (cell_base i + k) 0 ≡ get_or w' (cell_base i + k) 0) → cell_at w i ≡ cell_at w' i
+pub same_cell : (w w' : List ℕ) (i : ℕ) → ((k : ℕ) → k < 16 → get_or w (cell_base i + k) 0 ≡ get_or w' (cell_base i + k) 0) → cell_at w i ≡ cell_at w' i
 unfolding cell_at
-same-cell w w' i e = word-by-word (λ k. get_or w (cell_base i + k) 0) (λ k. get_or w' (cell_base i + k) 0) e
+same_cell w w' i e = word_by_word (λ k. get_or w (cell_base i + k) 0) (λ k. get_or w' (cell_base i + k) 0) e
 
 unfoldable cell_in : List ℕ → Cell
 cell_in l = cell_by (λ k. get_or l k 0)
 
-cell-part : (w : List ℕ) (i : ℕ) → cell_in (part (cell_base i) 16 w) ≡ cell_at w i
+cell_part : (w : List ℕ) (i : ℕ) → cell_in (part (cell_base i) 16 w) ≡ cell_at w i
 unfolding cell_in cell_at
-cell-part w i = word-by-word (λ k. get_or (part (cell_base i) 16 w) k 0) (λ k. get_or w (cell_base i + k) 0) (part_at (cell_base i) 16 w)
+cell_part w i = word_by_word (λ k. get_or (part (cell_base i) 16 w) k 0) (λ k. get_or w (cell_base i + k) 0) (part_at (cell_base i) 16 w)
 
 pub cell_apart : (w : List ℕ) (at : ℕ) (s : List ℕ) (n i : ℕ) → at + n ≤ length w → n ≤ length s → cell_base i + 16 ≤ length w → (cell_base i + 16 ≤ at) ⊎ (at + n ≤ cell_base i)
     → cell_at (paste w at s n) i ≡ cell_at w i
-cell_apart w at s n i hw hs hi o = sym (cell-part (paste w at s n) i) ∙ ap cell_in (part_apart w at s n (cell_base i) 16 hw hs hi o) ∙ cell-part w i
+cell_apart w at s n i hw hs hi o = sym (cell_part (paste w at s n) i) ∙ ap cell_in (part_apart w at s n (cell_base i) 16 hw hs hi o) ∙ cell_part w i
 
-pub cell-here : (w : List ℕ) (i : ℕ) (k : Cell) → cell_base i + 16 ≤ length w → cell_at (paste w (cell_base i) (words_of k) 16) i ≡ k
+pub cell_here : (w : List ℕ) (i : ℕ) (k : Cell) → cell_base i + 16 ≤ length w → cell_at (paste w (cell_base i) (words_of k) 16) i ≡ k
 unfolding cell_in
-cell-here w i k h = sym (cell-part (paste w (cell_base i) (words_of k) 16) i) ∙ ap cell_in (part-here w (cell_base i) (words_of k) 16 h refl)
+cell_here w i k h = sym (cell_part (paste w (cell_base i) (words_of k) 16) i) ∙ ap cell_in (part_here w (cell_base i) (words_of k) 16 h refl)

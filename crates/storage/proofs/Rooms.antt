@@ -9,21 +9,21 @@ use Rattle.storage.proofs.Strides.{row_before, area}
 
 pub record Rooms (n c i : ℕ) (s : Store) : Type 0 where
   pub cells : Fits w64 (16 * n)
-  pub before-places : Fits w64 (8 + 16 * n)
+  pub before_places : Fits w64 (8 + 16 * n)
   pub row : Fits w64 (256 * i)
   pub places : Fits w64 (8 + 16 * n + 256 * i)
-  pub places-end : Fits w64 (8 + 16 * n + 256 * i + 256)
-  pub places-scaled : Fits w64 ((8 + 16 * n + 256 * i) * 8)
-  pub places-from : 8 + 16 * n + 256 * i ≤ 8 + 16 * n + 256 * i + 256
-  pub places-to : 8 + 16 * n + 256 * i + 256 ≤ length s.words
+  pub places_end : Fits w64 (8 + 16 * n + 256 * i + 256)
+  pub places_scaled : Fits w64 ((8 + 16 * n + 256 * i) * 8)
+  pub places_from : 8 + 16 * n + 256 * i ≤ 8 + 16 * n + 256 * i + 256
+  pub places_to : 8 + 16 * n + 256 * i + 256 ≤ length s.words
   pub ring : Fits w64 (c * i)
-  pub ring-end : Fits w64 (c * i + c)
-  pub ring-from : c * i ≤ c * i + c
-  pub ring-to : c * i + c ≤ length s.bytes
-  pub tokens-end : Fits w64 (256 * i + 256)
-  pub tokens-scaled : Fits w64 (256 * i * 4)
-  pub tokens-from : 256 * i ≤ 256 * i + 256
-  pub tokens-to : 256 * i + 256 ≤ length s.tokens
+  pub ring_end : Fits w64 (c * i + c)
+  pub ring_from : c * i ≤ c * i + c
+  pub ring_to : c * i + c ≤ length s.bytes
+  pub tokens_end : Fits w64 (256 * i + 256)
+  pub tokens_scaled : Fits w64 (256 * i * 4)
+  pub tokens_from : 256 * i ≤ 256 * i + 256
+  pub tokens_to : 256 * i + 256 ≤ length s.tokens
 
 pub rooms : {n c i : ℕ} {s : Store} → i < n → Roomy n c s → Rooms n c i s
 rooms {n} {c} {i} {s} h r = go r.few r.small r.words r.bytes r.tokens (row_before c i n h) (area n c r.few r.small)
@@ -32,19 +32,19 @@ rooms {n} {c} {i} {s} h r = go r.few r.small r.words r.bytes r.tokens (row_befor
     go few small lw lb lt z a =
         record {
           cells = omega arith;
-          before-places = omega arith;
+          before_places = omega arith;
           row = omega arith;
           places = omega arith;
-          places-end = omega arith;
-          places-scaled = omega arith;
-          places-from = omega arith;
-          places-to = omega arith;
+          places_end = omega arith;
+          places_scaled = omega arith;
+          places_from = omega arith;
+          places_to = omega arith;
           ring = omega arith;
-          ring-end = omega arith;
-          ring-from = omega arith;
-          ring-to = omega arith;
-          tokens-end = omega arith;
-          tokens-scaled = omega arith;
-          tokens-from = omega arith;
-          tokens-to = omega arith;
+          ring_end = omega arith;
+          ring_from = omega arith;
+          ring_to = omega arith;
+          tokens_end = omega arith;
+          tokens_scaled = omega arith;
+          tokens_from = omega arith;
+          tokens_to = omega arith;
         }

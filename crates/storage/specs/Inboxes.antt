@@ -12,4 +12,4 @@ pub record PushesAt (n c i : ℕ) (s s' : Store) (buf items : List ℕ) (q : Inb
       (part (tokens_base i) 256 s.tokens) (part (tokens_base i) 256 s'.tokens) buf items q r
   pub in_words : s'.words ≡ paste s.words (places_base n i) (part (places_base n i) 256 s'.words) 256
   pub in_bytes : s'.bytes ≡ paste s.bytes (ring_base c i) (part (ring_base c i) c s'.bytes) c
-  pub in-tokens : s'.tokens ≡ paste s.tokens (tokens_base i) (part (tokens_base i) 256 s'.tokens) 256
+  pub in_tokens : s'.tokens ≡ paste s.tokens (tokens_base i) (part (tokens_base i) 256 s'.tokens) 256

@@ -71,9 +71,9 @@ pub record Roomy (n c : ℕ) (s : Store) : Type 0 where
 -- all but the rows is the same: the header, what lies beyond the least sizes, and the lengths
 pub record Around (n c : ℕ) (s s' : Store) : Type 0 where
   pub words_long : length s'.words ≡ length s.words
-  pub bytes-long : length s'.bytes ≡ length s.bytes
-  pub tokens-long : length s'.tokens ≡ length s.tokens
+  pub bytes_long : length s'.bytes ≡ length s.bytes
+  pub tokens_long : length s'.tokens ≡ length s.tokens
   pub header : take 8 s'.words ≡ take 8 s.words
-  pub beyond-words : drop (sizes_of n c).words s'.words ≡ drop (sizes_of n c).words s.words
-  pub beyond-bytes : drop (sizes_of n c).bytes s'.bytes ≡ drop (sizes_of n c).bytes s.bytes
-  pub beyond-tokens : drop (sizes_of n c).tokens s'.tokens ≡ drop (sizes_of n c).tokens s.tokens
+  pub beyond_words : drop (sizes_of n c).words s'.words ≡ drop (sizes_of n c).words s.words
+  pub beyond_bytes : drop (sizes_of n c).bytes s'.bytes ≡ drop (sizes_of n c).bytes s.bytes
+  pub beyond_tokens : drop (sizes_of n c).tokens s'.tokens ≡ drop (sizes_of n c).tokens s.tokens

@@ -30,11 +30,11 @@ pub header_read : (b : List ℕ) (n : ℕ) (l t : ℤ) → SFits w32 l → SFits
 unfolding header_at
 header_read b n l t fl ft p q r = rw (to_z-of_z w32 l fl, to_z-of_z w32 t ft, p, q, r)
 
-pub header-put : (h : CmsgHdr) (l l₁ l₂ l₃ : List ℕ) → SFits w32 h.cmsg_level → SFits w32 h.cmsg_type → l₁ ≡ sets l 0 (bytes 8 h.cmsg_len)
+pub header_put : (h : CmsgHdr) (l l₁ l₂ l₃ : List ℕ) → SFits w32 h.cmsg_level → SFits w32 h.cmsg_type → l₁ ≡ sets l 0 (bytes 8 h.cmsg_len)
     → l₂ ≡ sets l₁ 8 (bytes 4 (of_z w32 (to_z w32 (of_z w32 h.cmsg_level)))) → l₃ ≡ sets l₂ 12 (bytes 4 (of_z w32 (to_z w32 (of_z w32 h.cmsg_type))))
     → l₃ ≡ sets l 0 (header_bytes h)
 unfolding header_bytes
-header-put h l l₁ l₂ l₃ fl ft p q r =
+header_put h l l₁ l₂ l₃ fl ft p q r =
     let a = bytes 8 h.cmsg_len in
     let b = bytes 4 (of_z w32 h.cmsg_level) in
     let c = bytes 4 (of_z w32 h.cmsg_type) in
@@ -79,10 +79,10 @@ read_next s f₀ f i r fits h so e =
     ap (set f i) (to_z-of_z w32 r fits) ∙ ap (λ (l : List ℤ). set l i r) so ∙ put_next (descriptors_at i s 0) f₀ i r (length-descriptors_at i s 0) h
     ∙ ap (λ (l : List ℤ). l ++ drop (i + 1) f₀) (ap (λ (x : ℤ). descriptors_at i s 0 ++ (x ∷ [])) (e ∙ ap (λ (k : ℕ). to_z w32 (le 4 s k)) z) ∙ sym (at_snoc i s 0))
 
-pub write-next : (ds : List ℤ) (b₀ b b' : List ℕ) (i : ℕ) → SFits w32 (get_or ds i (pos 0)) → i < length ds → b ≡ sets b₀ 16 (descriptor_bytes (take i ds))
+pub write_next : (ds : List ℤ) (b₀ b b' : List ℕ) (i : ℕ) → SFits w32 (get_or ds i (pos 0)) → i < length ds → b ≡ sets b₀ 16 (descriptor_bytes (take i ds))
     → b' ≡ sets b (16 + 4 * i) (bytes 4 (of_z w32 (to_z w32 (of_z w32 (get_or ds i (pos 0)))))) → b' ≡ sets b₀ 16 (descriptor_bytes (take (i + 1) ds))
 unfolding descriptor_bytes
-write-next ds b₀ b b' i fits h so e =
+write_next ds b₀ b b' i fits h so e =
     let d = get_or ds i (pos 0) in
     let more : descriptor_bytes (take (i + 1) ds) ≡ descriptor_bytes (take i ds) ++ bytes 4 (of_z w32 d) =
     ap (λ (k : ℕ). descriptor_bytes (take k ds)) (add-one i) ∙ ap descriptor_bytes (take-suc ds i (pos 0) h) ∙ bytes-append (take i ds) (d ∷ [])
@@ -98,5 +98,5 @@ written_all ds b₀ b i h so = so ∙ ap (λ (l : List ℤ). sets b₀ 16 (descr
 pub read_all : (s : List ℕ) (f₀ f : List ℤ) (n i : ℕ) → n ≤ i → i ≤ n → f ≡ descriptors_at i s 0 ++ drop i f₀ → f ≡ descriptors_at n s 0 ++ drop n f₀
 read_all s f₀ f n i h k so = let e : i ≡ n = omega arith in so ∙ ap (λ (m : ℕ). descriptors_at m s 0 ++ drop m f₀) e
 
-pub descriptor-put : (l l' : List ℕ) (at : ℕ) (d r : ℤ) → SFits w32 r → r ≡ d → l' ≡ sets l at (bytes 4 (of_z w32 (to_z w32 (of_z w32 r)))) → l' ≡ sets l at (bytes 4 (of_z w32 d))
-descriptor-put l l' at d r fits e p = p ∙ ap (λ (x : ℤ). sets l at (bytes 4 (of_z w32 x))) (to_z-of_z w32 r fits ∙ e)
+pub descriptor_put : (l l' : List ℕ) (at : ℕ) (d r : ℤ) → SFits w32 r → r ≡ d → l' ≡ sets l at (bytes 4 (of_z w32 (to_z w32 (of_z w32 r)))) → l' ≡ sets l at (bytes 4 (of_z w32 d))
+descriptor_put l l' at d r fits e p = p ∙ ap (λ (x : ℤ). sets l at (bytes 4 (of_z w32 x))) (to_z-of_z w32 r fits ∙ e)

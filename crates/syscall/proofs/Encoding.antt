@@ -16,7 +16,7 @@ use Rattle.le.proofs.Widths.{sets-append}
 use Rattle.abi.specs.Size.{up8, rights, rights_of, rights_space_of}
 use Rattle.abi.specs.declared.CmsgHdr.{CmsgHdr}
 use Rattle.abi.specs.declared.Made.{Made}
-use Rattle.abi.proofs.Sizes.{up8-is, value, beyond}
+use Rattle.abi.proofs.Sizes.{up8_is, value, beyond}
 use Rattle.syscall.specs.Control.{header_bytes, descriptor_bytes, encoding, capacity_of}
 use Rattle.syscall.specs.Promise.{Encoded, encode_of, buffer_after}
 use Rattle.syscall.proofs.Bytes.{length-header, length-descriptors}
@@ -31,15 +31,15 @@ room n k h s = go (ltb n 16) refl h
     go false e l = omega (arith, ltb-false n 16 e)
 
 -- the two definitions at a list that is not empty
-pub answer-some : (ds : List ℤ) (b : List ℕ) → 1 ≤ length ds → encode_of ds b ≡ cond (ltb (capacity_of (length b)) (length ds)) (Answer.Refused SHORT) (Answer.Is (min (length b) (up8 (16 + 4 * length ds))))
+pub answer_some : (ds : List ℤ) (b : List ℕ) → 1 ≤ length ds → encode_of ds b ≡ cond (ltb (capacity_of (length b)) (length ds)) (Answer.Refused SHORT) (Answer.Is (min (length b) (up8 (16 + 4 * length ds))))
 unfolding encode_of
-answer-some [] b h = absurd (omega arith)
-answer-some (d ∷ ds) b h = refl
+answer_some [] b h = absurd (omega arith)
+answer_some (d ∷ ds) b h = refl
 
-pub buffer-some : (ds : List ℤ) (b : List ℕ) → 1 ≤ length ds → buffer_after ds b ≡ cond (ltb (capacity_of (length b)) (length ds)) b (encoding ds ++ drop (16 + 4 * length ds) b)
+pub buffer_some : (ds : List ℤ) (b : List ℕ) → 1 ≤ length ds → buffer_after ds b ≡ cond (ltb (capacity_of (length b)) (length ds)) b (encoding ds ++ drop (16 + 4 * length ds) b)
 unfolding buffer_after
-buffer-some [] b h = absurd (omega arith)
-buffer-some (d ∷ ds) b h = refl
+buffer_some [] b h = absurd (omega arith)
+buffer_some (d ∷ ds) b h = refl
 
 pub none : (ds : List ℤ) (b : List ℕ) → length ds ≡ 0 → Encoded ds b b (Answer.Is 0)
 unfolding encode_of buffer_after
@@ -49,26 +49,26 @@ none (d ∷ ds) b h = absurd (omega arith)
 pub too_many : (ds : List ℤ) (b : List ℕ) (c : ℕ) → c ≡ capacity_of (length b) → c < length ds → Encoded ds b b (Answer.Refused SHORT)
 too_many ds b c e h =
     let t = lt-ltb (capacity_of (length b)) (length ds) (omega arith) in
-    record { answer = sym (answer-some ds b (omega arith) ∙ rw t); bytes = sym (buffer-some ds b (omega arith) ∙ rw t) }
+    record { answer = sym (answer_some ds b (omega arith) ∙ rw t); bytes = sym (buffer_some ds b (omega arith) ∙ rw t) }
 
 module _ (ds : List ℤ) (b : List ℕ) (c : ℕ) (cap : c ≡ capacity_of (length b)) (fits : length ds ≤ c) (some : length ds ≡ 0 → ⊥) where
   pub enough : 16 + 4 * length ds ≤ length b
   enough = room (length b) (length ds) (omega arith) (omega arith)
 
   -- neither the header nor its space is refused
-  pub header-held : length b < 2 ^ 63 → (m : Made) (x : Errno) (b' : List ℕ) (r : Answer) → m ≡ rights_of (length ds) → m ≡ Made.Refused x → Encoded ds b b' r
+  pub header_held : length b < 2 ^ 63 → (m : Made) (x : Errno) (b' : List ℕ) (r : Answer) → m ≡ rights_of (length ds) → m ≡ Made.Refused x → Encoded ds b b' r
   unfolding rights_of
-  header-held l m x b' r p q =
+  header_held l m x b' r p q =
       let e = enough in
       let t = lt-ltb (16 + 4 * length ds) (2 ^ 64) (omega arith) in
       absurd (let z : ◌≡◌ {A = ℕ} 0 1 = cc (rw t at p) in omega arith)
 
-  pub space-held : length b < 2 ^ 63 → (a : Answer) (x : Errno) (b' : List ℕ) (r : Answer) → a ≡ rights_space_of (length ds) → a ≡ Answer.Refused x → Encoded ds b b' r
+  pub space_held : length b < 2 ^ 63 → (a : Answer) (x : Errno) (b' : List ℕ) (r : Answer) → a ≡ rights_space_of (length ds) → a ≡ Answer.Refused x → Encoded ds b b' r
   unfolding rights_space_of
-  space-held l a x b' r p q =
+  space_held l a x b' r p q =
       let e = enough in
       let g = beyond (16 + up8 (4 * length ds)) x (sym q ∙ p) in
-      absurd (omega (arith, up8-is (4 * length ds)))
+      absurd (omega (arith, up8_is (4 * length ds)))
 
   module _ (m : Made) (h : CmsgHdr) (made : m ≡ rights_of (length ds)) (is : m ≡ Made.Is h) (small : length b < 2 ^ 63) (b₁ b₂ : List ℕ)
       (header : b₁ ≡ sets b 0 (header_bytes h)) (rest : b₂ ≡ sets b₁ 16 (descriptor_bytes ds)) where
@@ -93,15 +93,15 @@ module _ (ds : List ℤ) (b : List ℕ) (c : ℕ) (cap : c ≡ capacity_of (leng
     done : (r : ℕ) → r ≡ min (length b) (up8 (16 + 4 * length ds)) → Encoded ds b b₂ (Answer.Is r)
     done r e =
         let t = le-ltb (capacity_of (length b)) (length ds) (omega arith) in
-        record { answer = ap Answer.Is e ∙ sym (answer-some ds b (omega arith) ∙ rw t); bytes = written ∙ sym (buffer-some ds b (omega arith) ∙ rw t) }
+        record { answer = ap Answer.Is e ∙ sym (answer_some ds b (omega arith) ∙ rw t); bytes = written ∙ sym (buffer_some ds b (omega arith) ∙ rw t) }
 
     module _ (a : Answer) (s : ℕ) (asked : a ≡ rights_space_of (length ds)) (told : a ≡ Answer.Is s) where
-      space-is : s ≡ up8 (16 + 4 * length ds)
+      space_is : s ≡ up8 (16 + 4 * length ds)
       unfolding rights_space_of
-      space-is = let v = value (16 + up8 (4 * length ds)) s (sym told ∙ asked) in omega (arith, up8-is (4 * length ds), up8-is (16 + 4 * length ds))
+      space_is = let v = value (16 + up8 (4 * length ds)) s (sym told ∙ asked) in omega (arith, up8_is (4 * length ds), up8_is (16 + 4 * length ds))
 
       pub to_the_end : length b < s → Encoded ds b b₂ (Answer.Is (length b))
-      to_the_end l = let e = space-is in done (length b) (omega arith)
+      to_the_end l = let e = space_is in done (length b) (omega arith)
 
       pub padded : s ≤ length b → Encoded ds b b₂ (Answer.Is s)
-      padded l = let e = space-is in done s (omega arith)
+      padded l = let e = space_is in done s (omega arith)

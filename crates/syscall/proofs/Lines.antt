@@ -29,6 +29,6 @@ lines =
     ∷ record { size = 19; no = 18; answer = 0 }
     ∷ []
 
-pub the-lines : All Right lines
+pub the_lines : All Right lines
 unfolding encode_of capacity_of up8 first_from
-the-lines = (λ d b e. rw e (refl, refl), (λ d b e. rw e (refl, refl), (λ d b e. rw e (refl, refl), (λ d b e. rw e (refl, refl), tt))))
+the_lines = (λ d b e. rw e (refl, refl), (λ d b e. rw e (refl, refl), (λ d b e. rw e (refl, refl), (λ d b e. rw e (refl, refl), tt))))

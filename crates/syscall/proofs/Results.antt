@@ -7,11 +7,11 @@ use Rattle.laws.proofs.Unique.{unique}
 use Rattle.words.specs.declared.Answer.{Answer}
 use Rattle.syscall.specs.Promise.{Parsed, SendParsed, Encoded}
 
-pub parsed-unique : (b : List ℕ) (f g h : List ℤ) (r s : Answer) → Parsed b f g r → Parsed b f h s → (r ≡ s) × (g ≡ h)
-parsed-unique b f g h r s x y = (unique x.answer y.answer, unique x.list y.list)
+pub parsed_unique : (b : List ℕ) (f g h : List ℤ) (r s : Answer) → Parsed b f g r → Parsed b f h s → (r ≡ s) × (g ≡ h)
+parsed_unique b f g h r s x y = (unique x.answer y.answer, unique x.list y.list)
 
-pub send-unique : (z : ℤ) (b : List ℕ) (f g h : List ℤ) (r s : Answer) → SendParsed z b f g r → SendParsed z b f h s → (r ≡ s) × (g ≡ h)
-send-unique z b f g h r s x y = (unique x.answer y.answer, unique x.list y.list)
+pub send_unique : (z : ℤ) (b : List ℕ) (f g h : List ℤ) (r s : Answer) → SendParsed z b f g r → SendParsed z b f h s → (r ≡ s) × (g ≡ h)
+send_unique z b f g h r s x y = (unique x.answer y.answer, unique x.list y.list)
 
-pub encoded-unique : (ds : List ℤ) (a b c : List ℕ) (r s : Answer) → Encoded ds a b r → Encoded ds a c s → (r ≡ s) × (b ≡ c)
-encoded-unique ds a b c r s x y = (unique x.answer y.answer, unique x.bytes y.bytes)
+pub encoded_unique : (ds : List ℤ) (a b c : List ℕ) (r s : Answer) → Encoded ds a b r → Encoded ds a c s → (r ≡ s) × (b ≡ c)
+encoded_unique ds a b c r s x y = (unique x.answer y.answer, unique x.bytes y.bytes)

@@ -17,16 +17,16 @@ use Rattle.words.specs.Integers.{equals}
 use Rattle.words.specs.declared.Errno.TheVariants.{EINVAL}
 use Rattle.words.specs.declared.Answer.{Answer}
 use Rattle.le.specs.Le.{le, bytes}
-use Rattle.le.proofs.Widths.{length-bytes, le-at, AreBytes, le-fits, bytes_le}
+use Rattle.le.proofs.Widths.{length-bytes, le_at, AreBytes, le_fits, bytes_le}
 use Rattle.abi.specs.Size.{up8, rights, rights_count_of}
 use Rattle.abi.specs.declared.CmsgHdr.{CmsgHdr}
 use Rattle.abi.specs.declared.Count.{Count}
-use Rattle.abi.proofs.Sizes.{up8-is}
-use Rattle.abi.proofs.Headers.{Counted, count-says}
+use Rattle.abi.proofs.Sizes.{up8_is}
+use Rattle.abi.proofs.Headers.{Counted, count_says}
 use Rattle.syscall.specs.Control.{Control, header_at, descriptors_at, counted, meaning, header_bytes, descriptor_bytes, encoding, capacity_of}
 use Rattle.syscall.specs.Promise.{encode_of, buffer_after}
 use Rattle.syscall.proofs.Bytes.{length-header, length-descriptors, length-descriptors_at}
-use Rattle.syscall.proofs.Encoding.{room, answer-some, buffer-some}
+use Rattle.syscall.proofs.Encoding.{room, answer_some, buffer_some}
 
 -- each is an i32
 abbrev pub AreDescriptors : List ℤ → Type 0
@@ -40,24 +40,24 @@ descriptors-at [] xs s p f e = refl
 descriptors-at (d ∷ ds) xs s p f e =
     let b = bytes 4 (of_z w32 d) in
     let n : length (xs ++ b) ≡ p + 4 = omega (arith, length-append xs b, length-bytes 4 (of_z w32 d)) in
-    let first : le 4 (xs ++ (b ++ (descriptor_bytes ds ++ s))) p ≡ of_z w32 d = le-at 4 (of_z w32 d) xs (descriptor_bytes ds ++ s) p (of_z_fits w32 d f.0).fits e in
+    let first : le 4 (xs ++ (b ++ (descriptor_bytes ds ++ s))) p ≡ of_z w32 d = le_at 4 (of_z w32 d) xs (descriptor_bytes ds ++ s) p (of_z_fits w32 d f.0).fits e in
     ap (λ (l : List ℕ). descriptors_at (length (d ∷ ds)) (xs ++ l) p) (append_assoc b (descriptor_bytes ds) s)
     ∙ ap₂ (λ (x : ℤ) (l : List ℤ). x ∷ l) (ap (to_z w32) first ∙ to_z-of_z w32 d f.0)
     (ap (λ (l : List ℕ). descriptors_at (length ds) l (p + 4)) (sym (append_assoc xs b (descriptor_bytes ds ++ s))) ∙ descriptors-at ds (xs ++ b) s (p + 4) f.1 n)
 
 -- the header that the encoder writes is the one that `scm_rights` makes
-pub header-back : (ds : List ℤ) (s : List ℕ) → 16 + 4 * length ds < 2 ^ 64 → header_at (encoding ds ++ s) ≡ rights (16 + 4 * length ds)
+pub header_back : (ds : List ℤ) (s : List ℕ) → 16 + 4 * length ds < 2 ^ 64 → header_at (encoding ds ++ s) ≡ rights (16 + 4 * length ds)
 unfolding header_at encoding header_bytes
-header-back ds s h =
+header_back ds s h =
     let n = 16 + 4 * length ds in
     let a = bytes 8 n in
     let b = bytes 4 1 in
     let D = descriptor_bytes ds in
     let whole : a ++ (b ++ b) ++ D ++ s ≡ a ++ (b ++ (b ++ (D ++ s))) = simp append_assoc in
-    let len : le 8 (a ++ (b ++ (b ++ (D ++ s)))) 0 ≡ n = le-at 8 n [] (b ++ (b ++ (D ++ s))) 0 h refl in
-    let level : le 4 (a ++ (b ++ (b ++ (D ++ s)))) 8 ≡ 1 = le-at 4 1 a (b ++ (D ++ s)) 8 (omega arith) (length-bytes 8 n) in
+    let len : le 8 (a ++ (b ++ (b ++ (D ++ s)))) 0 ≡ n = le_at 8 n [] (b ++ (b ++ (D ++ s))) 0 h refl in
+    let level : le 4 (a ++ (b ++ (b ++ (D ++ s)))) 8 ≡ 1 = le_at 4 1 a (b ++ (D ++ s)) 8 (omega arith) (length-bytes 8 n) in
     let twelve : length (a ++ b) ≡ 12 = omega (arith, length-append a b, length-bytes 8 n, length-bytes 4 1) in
-    let type : le 4 (a ++ (b ++ (b ++ (D ++ s)))) 12 ≡ 1 = ap (λ (l : List ℕ). le 4 l 12) (sym (append_assoc a b (b ++ (D ++ s)))) ∙ le-at 4 1 (a ++ b) (D ++ s) 12 (omega arith) twelve in
+    let type : le 4 (a ++ (b ++ (b ++ (D ++ s)))) 12 ≡ 1 = ap (λ (l : List ℕ). le 4 l 12) (sym (append_assoc a b (b ++ (D ++ s)))) ∙ le_at 4 1 (a ++ b) (D ++ s) 12 (omega arith) twelve in
     rw (whole, len, level, type)
 
 all_back : (ds : List ℤ) (s : List ℕ) → AreDescriptors ds → descriptors_at (length ds) (encoding ds ++ s) 16 ≡ ds
@@ -66,9 +66,9 @@ all_back ds s f =
     let h = header_bytes (rights (16 + 4 * length ds)) in
     ap (λ (l : List ℕ). descriptors_at (length ds) l 16) (append_assoc h (descriptor_bytes ds) s) ∙ descriptors-at ds h s 16 f (length-header (rights (16 + 4 * length ds)))
 
-count-back : (k n : ℕ) → 16 + 4 * k ≤ n → rights_count_of (rights (16 + 4 * k)) n ≡ Count.Of k
+count_back : (k n : ℕ) → 16 + 4 * k ≤ n → rights_count_of (rights (16 + 4 * k)) n ≡ Count.Of k
 unfolding rights_count_of equals
-count-back k n h =
+count_back k n h =
     let whole : (16 + 4 * k - 16) % 4 ≡ 0 = omega arith in
     let is : (16 + 4 * k - 16) / 4 ≡ k = omega arith in
     rw (le-ltb n (16 + 4 * k) h, le-ltb (16 + 4 * k) 16 (omega arith), eq-eqb ((16 + 4 * k - 16) % 4) 0 whole) (ap Count.Of is)
@@ -80,13 +80,13 @@ length-encoding ds =
     omega (arith, length-append h (descriptor_bytes ds), length-header (rights (16 + 4 * length ds)), length-descriptors ds)
 
 -- an encoding means its descriptors, whatever stands behind it
-pub encoding-back : (ds : List ℤ) (s : List ℕ) → AreDescriptors ds → 16 + 4 * length ds < 2 ^ 64 → meaning (encoding ds ++ s) ≡ Control.descriptors ds
+pub encoding_back : (ds : List ℤ) (s : List ℕ) → AreDescriptors ds → 16 + 4 * length ds < 2 ^ 64 → meaning (encoding ds ++ s) ≡ Control.descriptors ds
 unfolding meaning counted
-encoding-back ds s f h =
+encoding_back ds s f h =
     let c = encoding ds ++ s in
     let n : length c ≡ 16 + 4 * length ds + length s = omega (arith, length-append (encoding ds) s, length-encoding ds) in
     let long : 16 ≤ length c = omega arith in
-    let told : rights_count_of (header_at c) (length c) ≡ Count.Of (length ds) = ap (λ (x : CmsgHdr). rights_count_of x (length c)) (header-back ds s h) ∙ count-back (length ds) (length c) (omega arith) in
+    let told : rights_count_of (header_at c) (length c) ≡ Count.Of (length ds) = ap (λ (x : CmsgHdr). rights_count_of x (length c)) (header_back ds s h) ∙ count_back (length ds) (length c) (omega arith) in
     rw (ne_eqb (length c) 0 (λ e. omega arith), le-ltb (length c) 16 long, told) (ap Control.descriptors (all_back ds s f))
 
 -- "parsing that many bytes returns the k": the first bytes of the buffer, as many as the encoder answered
@@ -96,12 +96,12 @@ back_some ds b r some f small fits e =
     let n = 16 + 4 * length ds in
     let held : n ≤ length b = room (length b) (length ds) fits some in
     let t = le-ltb (capacity_of (length b)) (length ds) fits in
-    let answer : r ≡ min (length b) (up8 n) = cc (rw t at (answer-some ds b some)) in
-    let buffer : buffer_after ds b ≡ encoding ds ++ drop n b = rw t at (buffer-some ds b some) in
-    let enough : r ≡ length (encoding ds) + (r - n) = omega (arith, length-encoding ds, up8-is n) in
+    let answer : r ≡ min (length b) (up8 n) = cc (rw t at (answer_some ds b some)) in
+    let buffer : buffer_after ds b ≡ encoding ds ++ drop n b = rw t at (buffer_some ds b some) in
+    let enough : r ≡ length (encoding ds) + (r - n) = omega (arith, length-encoding ds, up8_is n) in
     let first : take r (encoding ds ++ drop n b) ≡ encoding ds ++ take (r - n) (drop n b) =
     ap (λ (k : ℕ). take k (encoding ds ++ drop n b)) enough ∙ take-append-add (encoding ds) (drop n b) (r - n) in
-    ap (λ (l : List ℕ). meaning (take r l)) buffer ∙ ap meaning first ∙ encoding-back ds (take (r - n) (drop n b)) f (omega arith)
+    ap (λ (l : List ℕ). meaning (take r l)) buffer ∙ ap meaning first ∙ encoding_back ds (take (r - n) (drop n b)) f (omega arith)
 
 pub back : (ds : List ℤ) (b : List ℕ) (r : ℕ) → AreDescriptors ds → length b < 2 ^ 63 → length ds ≤ capacity_of (length b) → encode_of ds b ≡ Answer.Is r
     → meaning (take r (buffer_after ds b)) ≡ Control.descriptors ds
@@ -126,7 +126,7 @@ header_is h n k c =
 
 module _ (b : List ℕ) (are : AreBytes b) where
   bits_back : (p : ℕ) → p + 4 ≤ length b → bytes 4 (of_z w32 (to_z w32 (le 4 b p))) ≡ take 4 (drop p b)
-  bits_back p h = ap (bytes 4) (of_z-to_z w32 (le 4 b p) (record { fits = le-fits 4 b p are })) ∙ bytes_le 4 b p are h
+  bits_back p h = ap (bytes 4) (of_z-to_z w32 (le 4 b p) (record { fits = le_fits 4 b p are })) ∙ bytes_le 4 b p are h
 
   header-bytes : 16 ≤ length b → header_bytes (header_at b) ≡ take 16 b
   unfolding header_bytes header_at
@@ -162,7 +162,7 @@ module _ (b : List ℕ) (are : AreBytes b) where
       go false p (Count.Of k) q r =
           let is : descriptors_at k b 16 ≡ ds = cc in
           let n : length ds ≡ k = ap length (sym is) ∙ length-descriptors_at k b 16 in
-          ap encoding (sym is) ∙ encodes k (ltb-false (length b) 16 p) (count-says (header_at b) (length b) k (sym q)) ∙ ap (λ (m : ℕ). take (16 + 4 * m) b) (sym n)
+          ap encoding (sym is) ∙ encodes k (ltb-false (length b) 16 p) (count_says (header_at b) (length b) k (sym q)) ∙ ap (λ (m : ℕ). take (16 + 4 * m) b) (sym n)
 
 -- an accepted buffer re-encodes to the same header and data
 pub again : (b : List ℕ) (ds : List ℤ) → AreBytes b → (length b ≡ 0 → ⊥) → meaning b ≡ Control.descriptors ds → encoding ds ≡ take (16 + 4 * length ds) b

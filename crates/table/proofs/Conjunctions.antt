@@ -7,36 +7,36 @@ use native.Mathlib.Decide.{dec_lt}
 use native.Mathlib.Omega.{arith}
 use borrow.Author.Tests.{not-true, not-false}
 use Rattle.rules.specs.WellFormed.{every}
-use Rattle.rules.proofs.YesNo.{every-at, at_every}
+use Rattle.rules.proofs.YesNo.{every_at, at_every}
 
 pub nope : (b : Bool) → (b ≡ true → ⊥) → false ≡ b
 nope true f = absurd (f refl)
 nope false f = refl
 
-pub or-on : (a : Bool) → true ≡ a || true
-or-on true = refl
-or-on false = refl
+pub or_on : (a : Bool) → true ≡ a || true
+or_on true = refl
+or_on false = refl
 
 pub or_off : (a : Bool) → a ≡ a || false
 or_off true = refl
 or_off false = refl
 
 module _ (a b : Bool) where
-  pub first-of-two : (p : Bool) → p ≡ a → not p ≡ true → false ≡ a && b
-  first-of-two p e t = rw (sym e ∙ not-true p t)
+  pub first_of_two : (p : Bool) → p ≡ a → not p ≡ true → false ≡ a && b
+  first_of_two p e t = rw (sym e ∙ not-true p t)
 
-  pub last-of-two : (p r : Bool) → p ≡ a → not p ≡ false → r ≡ b → r ≡ a && b
-  last-of-two p r e t z = rw (sym e ∙ not-false p t) z
+  pub last_of_two : (p r : Bool) → p ≡ a → not p ≡ false → r ≡ b → r ≡ a && b
+  last_of_two p r e t z = rw (sym e ∙ not-false p t) z
 
 module _ (a b d : Bool) where
-  pub first-of-three : (p : Bool) → p ≡ a → not p ≡ true → false ≡ a && b && d
-  first-of-three p e t = rw (sym e ∙ not-true p t)
+  pub first_of_three : (p : Bool) → p ≡ a → not p ≡ true → false ≡ a && b && d
+  first_of_three p e t = rw (sym e ∙ not-true p t)
 
-  pub second-of-three : (p q : Bool) → p ≡ a → not p ≡ false → q ≡ b → not q ≡ true → false ≡ a && b && d
-  second-of-three p q e t z s = rw (sym e ∙ not-false p t, sym z ∙ not-true q s)
+  pub second_of_three : (p q : Bool) → p ≡ a → not p ≡ false → q ≡ b → not q ≡ true → false ≡ a && b && d
+  second_of_three p q e t z s = rw (sym e ∙ not-false p t, sym z ∙ not-true q s)
 
-  pub last-of-three : (p q r : Bool) → p ≡ a → not p ≡ false → q ≡ b → not q ≡ false → r ≡ d → r ≡ a && b && d
-  last-of-three p q r e t z s y = rw (sym e ∙ not-false p t, sym z ∙ not-false q s) y
+  pub last_of_three : (p q r : Bool) → p ≡ a → not p ≡ false → q ≡ b → not q ≡ false → r ≡ d → r ≡ a && b && d
+  last_of_three p q r e t z s y = rw (sym e ∙ not-false p t, sym z ∙ not-false q s) y
 
 -- ── Every number below n ──
 
@@ -44,8 +44,8 @@ module _ (a b d : Bool) where
 pub record AllBefore (p : ℕ → Bool) (i : ℕ) : Type 0 where
   pub all : (j : ℕ) → j < i → p j ≡ true
 
-pub all-yet : (p : ℕ → Bool) → AllBefore p 0
-all-yet p = record { all = λ j h. absurd (not-suc-le-zero h) }
+pub all_yet : (p : ℕ → Bool) → AllBefore p 0
+all_yet p = record { all = λ j h. absurd (not-suc-le-zero h) }
 
 pub all_here : (p : ℕ → Bool) (i : ℕ) → AllBefore p i → p i ≡ true → AllBefore p (i + 1)
 all_here p i b e = record { all = λ j h. go j h (dec_lt j i) }
@@ -57,5 +57,5 @@ all_here p i b e = record { all = λ j h. go j h (dec_lt j i) }
 pub all_done : (n : ℕ) (p : ℕ → Bool) (i : ℕ) → n ≤ i → AllBefore p i → true ≡ every n p
 all_done n p i h b = sym (at_every n p (λ j l. b.all j (omega arith)))
 
-pub one-fails : (n : ℕ) (p : ℕ → Bool) (i : ℕ) → i < n → p i ≡ false → false ≡ every n p
-one-fails n p i h e = nope (every n p) (λ t. false≢true (sym e ∙ every-at n p i t h))
+pub one_fails : (n : ℕ) (p : ℕ → Bool) (i : ℕ) → i < n → p i ≡ false → false ≡ every n p
+one_fails n p i h e = nope (every n p) (λ t. false≢true (sym e ∙ every_at n p i t h))

@@ -27,9 +27,9 @@ equal n c s r f =
     (λ e. down n c s f e r) (λ a w. up n c s f a w)
 
 -- with the sizes asked first: where they do not fit, the table is not looked at
-pub admits-by-checks : (n c : ℕ) (s : Store) (wakes releases : ℕ) → admission n c (storage_fits n c s && lists_fit n c wakes releases) (checks n c s) ≡ admits n c s wakes releases
+pub admits_by_checks : (n c : ℕ) (s : Store) (wakes releases : ℕ) → admission n c (storage_fits n c s && lists_fit n c wakes releases) (checks n c s) ≡ admits n c s wakes releases
 unfolding admits admission
-admits-by-checks n c s wakes releases = go (in_range n c) (storage_fits n c s && lists_fit n c wakes releases) refl refl
+admits_by_checks n c s wakes releases = go (in_range n c) (storage_fits n c s && lists_fit n c wakes releases) refl refl
   where
     go : (r l : Bool) → in_range n c ≡ r → storage_fits n c s && lists_fit n c wakes releases ≡ l
         → ◌≡◌ {A = ℕ} (cond (in_range n c) (cond (storage_fits n c s && lists_fit n c wakes releases) (cond (checks n c s) 0 19) 18) 2)

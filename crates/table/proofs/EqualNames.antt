@@ -10,29 +10,29 @@ use lib.Dec.{leb, eqb}
 use lib.ListN.{length, take}
 use lib.Seq.{length-take-le}
 use borrow.Author.Tests.{le-leb, leb-true, eq-eqb, eqb-true}
-use Rattle.laws.proofs.Tests.{and_left, and_right, and-three, less-or, both}
+use Rattle.laws.proofs.Tests.{and_left, and_right, and_three, less_or, both}
 use Rattle.rules.specs.Table.{at, same, holds}
 use Rattle.rules.specs.WellFormed.{implies, alone, named_well}
-use Rattle.rules.proofs.Wf.{same_refl, same-eq}
-use Rattle.rules.proofs.YesNo.{every-at, at_every, make-implies, use-implies}
+use Rattle.rules.proofs.Wf.{same_refl, same_eq}
+use Rattle.rules.proofs.YesNo.{every_at, at_every, make_implies, use_implies}
 use Rattle.storage.specs.Layout.{part, name_base}
 use Rattle.storage.specs.Cells.{cell_at, state_of}
 use Rattle.storage.specs.Rows.{Store, row_at, Roomy}
 use Rattle.storage.specs.View.{view}
 use Rattle.storage.specs.Finding.{least, named, name_length, holds_cell}
 use Rattle.storage.specs.declared.State.{State}
-use Rattle.storage.proofs.Finds.{least-none}
+use Rattle.storage.proofs.Finds.{least_none}
 use Rattle.storage.proofs.Pasted.{length_part}
-use Rattle.storage.proofs.Viewed.{seen, size-view, shown-holds}
+use Rattle.storage.proofs.Viewed.{seen, size_view, shown_holds}
 use Rattle.table.specs.OnePass.{name_checks}
-use Rattle.table.proofs.EqualTests.{unless, not-both}
+use Rattle.table.proofs.EqualTests.{unless, not_both}
 
 -- ── Tests ──
 
-least-before : (n : ℕ) (p : ℕ → Bool) (j : ℕ) → least n p ≡ n → j < n → p j ≡ false
+least_before : (n : ℕ) (p : ℕ → Bool) (j : ℕ) → least n p ≡ n → j < n → p j ≡ false
 unfolding least
-least-before zero p j e h = absurd (not-suc-le-zero h)
-least-before (suc n) p j e h = go (p zero) refl j h (λ j. least-before n (λ k. p (suc k)) j)
+least_before zero p j e h = absurd (not-suc-le-zero h)
+least_before (suc n) p j e h = go (p zero) refl j h (λ j. least_before n (λ k. p (suc k)) j)
   where
     go : (b : Bool) → p zero ≡ b → (j : ℕ) → j < suc n → ((j : ℕ) → least n (λ k. p (suc k)) ≡ n → j < n → p (suc j) ≡ false) → p j ≡ false
     go true z j h f = let k : zero ≡ suc n = rw z at e in absurd (omega arith)
@@ -54,7 +54,7 @@ module _ (n c : ℕ) (s : Store) where
   held : (j : ℕ) (m : List ℕ) → j < n → held_at j m ≡ holds m (at (view n c s) j)
   unfolding holds_cell row_at
   held j m h =
-      shown-holds (row_at n c s j) (cell_at s.words j).generation (state_of (cell_at s.words j)) m
+      shown_holds (row_at n c s j) (cell_at s.words j).generation (state_of (cell_at s.words j)) m
       ∙ ap (holds m) (sym (seen n c s j (state_of (cell_at s.words j)) h refl))
 
   -- what a slot's own test says
@@ -67,20 +67,20 @@ module _ (n c : ℕ) (s : Store) where
   unfolding name_checks
   own i m e =
       let p : ℕ → Bool = λ j. held_at j (take m (room_of i)) in
-      let l = and-three (leb 1 m) (leb m 255) (eqb (least i p) i) e in
-      record { some_byte = leb-true _ _ l.0; short = leb-true _ _ l.1; before = λ j h. least-before i p j (eqb-true _ _ l.2) h }
+      let l = and_three (leb 1 m) (leb m 255) (eqb (least i p) i) e in
+      record { some_byte = leb-true _ _ l.0; short = leb-true _ _ l.1; before = λ j h. least_before i p j (eqb-true _ _ l.2) h }
 
-  of-own : (i m : ℕ) → Own i m → name_checks n c s.words s.bytes i m ≡ true
+  of_own : (i m : ℕ) → Own i m → name_checks n c s.words s.bytes i m ≡ true
   unfolding name_checks
-  of-own i m o =
-      rw (le-leb 1 m o.some_byte, le-leb m 255 o.short) (eq-eqb _ i (least-none i (λ j. held_at j (take m (room_of i))) o.before))
+  of_own i m o =
+      rw (le-leb 1 m o.some_byte, le-leb m 255 o.short) (eq-eqb _ i (least_none i (λ j. held_at j (take m (room_of i))) o.before))
 
   -- a name held by slot j is the name of slot j
-  held-is : (j : ℕ) (m : List ℕ) → held_at j m ≡ true → (named (state_of (cell_at s.words j)) ≡ true) × (name_at j ≡ m)
+  held_is : (j : ℕ) (m : List ℕ) → held_at j m ≡ true → (named (state_of (cell_at s.words j)) ≡ true) × (name_at j ≡ m)
   unfolding holds_cell
-  held-is j m e =
+  held_is j m e =
       let σ : State = state_of (cell_at s.words j) in
-      (and_left (named σ) (same (name_at j) m) e, same-eq (name_at j) m (and_right (named σ) (same (name_at j) m) e))
+      (and_left (named σ) (same (name_at j) m) e, same_eq (name_at j) m (and_right (named σ) (same (name_at j) m) e))
 
   is_held : (i : ℕ) → named (state_of (cell_at s.words i)) ≡ true → held_at i (name_at i) ≡ true
   unfolding holds_cell
@@ -91,15 +91,15 @@ module _ (n c : ℕ) (s : Store) where
   unfolding alone
   alone_of i m f =
       at_every (length (view n c s).slots) (λ j. implies (holds m (at (view n c s) j)) (eqb j i)) λ j h.
-      let hj : j < n = omega (arith, size-view n c s) in
-      make-implies (holds m (at (view n c s) j)) (eqb j i) (λ e. eq-eqb j i (f j hj (held j m hj ∙ e)))
+      let hj : j < n = omega (arith, size_view n c s) in
+      make_implies (holds m (at (view n c s) j)) (eqb j i) (λ e. eq-eqb j i (f j hj (held j m hj ∙ e)))
 
-  of-alone : (i : ℕ) (m : List ℕ) → alone (view n c s) i m ≡ true → (j : ℕ) → j < n → held_at j m ≡ true → j ≡ i
+  of_alone : (i : ℕ) (m : List ℕ) → alone (view n c s) i m ≡ true → (j : ℕ) → j < n → held_at j m ≡ true → j ≡ i
   unfolding alone
-  of-alone i m a j hj e =
+  of_alone i m a j hj e =
       eqb-true j i
-      (use-implies (holds m (at (view n c s) j)) (eqb j i)
-      (every-at (length (view n c s).slots) (λ j. implies (holds m (at (view n c s) j)) (eqb j i)) j a (omega (arith, size-view n c s)))
+      (use_implies (holds m (at (view n c s) j)) (eqb j i)
+      (every_at (length (view n c s).slots) (λ j. implies (holds m (at (view n c s) j)) (eqb j i)) j a (omega (arith, size_view n c s)))
       (sym (held j m hj) ∙ e))
 
   module _ (f : Roomy n c s) where
@@ -115,31 +115,31 @@ module _ (n c : ℕ) (s : Store) where
       mine j h e = own j (name_length (state_of (cell_at s.words j))) (all j h e)
 
       one : (i : ℕ) → i < n → named (state_of (cell_at s.words i)) ≡ true → (j : ℕ) → j < n → held_at j (name_at i) ≡ true → j ≡ i
-      one i hi ni j hj e = go (less-or j i) (less-or i j)
+      one i hi ni j hj e = go (less_or j i) (less_or i j)
         where
           go : (j < i) ⊎ (i ≤ j) → (i < j) ⊎ (j ≤ i) → j ≡ i
-          go (inl a) b = absurd (not-both (held_at j (name_at i)) e ((mine i hi ni).before j a))
+          go (inl a) b = absurd (not_both (held_at j (name_at i)) e ((mine i hi ni).before j a))
           go (inr a) (inl b) =
-              let k = held-is j (name_at i) e in
-              absurd (not-both (held_at i (name_at j)) (ap (held_at i) k.1 ∙ is_held i ni) ((mine j hj k.0).before i b))
+              let k = held_is j (name_at i) e in
+              absurd (not_both (held_at i (name_at j)) (ap (held_at i) k.1 ∙ is_held i ni) ((mine j hj k.0).before i b))
           go (inr a) (inr b) = omega arith
 
-      pub names-down : (i : ℕ) → i < n → named (state_of (cell_at s.words i)) ≡ true → named_well (view n c s) i (name_at i) ≡ true
+      pub names_down : (i : ℕ) → i < n → named (state_of (cell_at s.words i)) ≡ true → named_well (view n c s) i (name_at i) ≡ true
       unfolding named_well
-      names-down i hi ni =
+      names_down i hi ni =
           let o = mine i hi ni in
           let l = long i (name_length (state_of (cell_at s.words i))) hi o.short in
           rw (l, le-leb 1 _ o.some_byte, le-leb _ 255 o.short) (alone_of i (name_at i) (one i hi ni))
 
     -- and back
-    pub names-up : (i m : ℕ) → i < n → m ≤ 255 → named_well (view n c s) i (take m (room_of i)) ≡ true → name_checks n c s.words s.bytes i m ≡ true
+    pub names_up : (i m : ℕ) → i < n → m ≤ 255 → named_well (view n c s) i (take m (room_of i)) ≡ true → name_checks n c s.words s.bytes i m ≡ true
     unfolding named_well
-    names-up i m hi hm e =
+    names_up i m hi hm e =
         let name : List ℕ = take m (room_of i) in
-        let l = and-three (leb 1 (length name)) (leb (length name) 255) (alone (view n c s) i name) e in
-        of-own i m
+        let l = and_three (leb 1 (length name)) (leb (length name) 255) (alone (view n c s) i name) e in
+        of_own i m
         (record {
           some_byte = let z = leb-true 1 (length name) l.0 in omega (arith, long i m hi hm);
           short = hm;
-          before = λ j h. unless (held_at j name) (λ k. let z = of-alone i name l.2 j (omega arith) k in omega arith);
+          before = λ j h. unless (held_at j name) (λ k. let z = of_alone i name l.2 j (omega arith) k in omega arith);
         })

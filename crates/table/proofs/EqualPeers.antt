@@ -7,7 +7,7 @@ use native.Mathlib.Decide.{ℕ_discrete as dec_eq}
 use native.Mathlib.Omega.{arith}
 use lib.Dec.{leb, eqb}
 use borrow.Author.Tests.{lt-ltb, le-ltb, le-leb, lt-leb, eq-eqb, ne_eqb}
-use Rattle.laws.proofs.Tests.{less-or}
+use Rattle.laws.proofs.Tests.{less_or}
 use Rattle.rules.specs.Table as model
 use Rattle.rules.specs.Table.{slot_of, handle, handle_at, is_open}
 use Rattle.rules.specs.WellFormed.{implies, points_at, linked_well}
@@ -17,20 +17,20 @@ use Rattle.storage.specs.View.{show_in, view}
 use Rattle.storage.specs.Finding.{occupied, open_in}
 use Rattle.storage.specs.declared.State.{State}
 use Rattle.storage.specs.declared.State.TheVariants.{Closed, Unbound, Bound, Listening, Connected}
-use Rattle.storage.proofs.Viewed.{seen, at_none, gen-at, open-view}
+use Rattle.storage.proofs.Viewed.{seen, at_none, gen_at, open_view}
 use Rattle.table.specs.OnePass.{points_back, peer_checks}
 
 -- ── A handle and its generation ──
 
-gen-same : (g h : ℕ) → eqb (handle g (slot_of h)) h ≡ eqb (h / 65536) g
-gen-same g h =
+gen_same : (g h : ℕ) → eqb (handle g (slot_of h)) h ≡ eqb (h / 65536) g
+gen_same g h =
     elim (dec_eq (h / 65536) g) [
       | yes e ↦ let z : g * 65536 + h % 65536 ≡ h = omega arith in eq-eqb (handle g (slot_of h)) h z ∙ sym (eq-eqb (h / 65536) g e)
       | no ne ↦ ne_eqb (handle g (slot_of h)) h (λ z. ne (omega arith)) ∙ sym (ne_eqb (h / 65536) g ne)
     ]
 
-gen-past : (g h : ℕ) → leb (h / 65536) g ≡ leb h (handle g (slot_of h))
-gen-past g h = go (less-or g (h / 65536))
+gen_past : (g h : ℕ) → leb (h / 65536) g ≡ leb h (handle g (slot_of h))
+gen_past g h = go (less_or g (h / 65536))
   where
     go : (g < h / 65536) ⊎ (h / 65536 ≤ g) → leb (h / 65536) g ≡ leb h (handle g (slot_of h))
     go (inl l) = let z : g * 65536 + h % 65536 < h = omega arith in lt-leb (h / 65536) g l ∙ sym (lt-leb h (handle g (slot_of h)) z)
@@ -48,7 +48,7 @@ points me c true r g (Connected k) = refl
 points me c false r g σ = refl
 
 no_slot : (p y : ℕ) (a : Bool) → p % 65536 ≡ y → leb 1 (p / 65536) && leb p (0 + y) && a ≡ false
-no_slot p y a e = go (less-or (p / 65536) 1)
+no_slot p y a e = go (less_or (p / 65536) 1)
   where
     go : (p / 65536 < 1) ⊎ (1 ≤ p / 65536) → leb 1 (p / 65536) && leb p (0 + y) && a ≡ false
     go (inl l) = rw (lt-leb 1 (p / 65536) l)
@@ -60,8 +60,8 @@ module _ (n c : ℕ) (s : Store) (i p : ℕ) (closed : Bool) (hi : i < n) where
   abbrev me : ℕ
   me = handle (cell_at s.words i).generation i
 
-  me-is : me ≡ handle_at (view n c s) i
-  me-is = ap (λ (g : ℕ). handle g i) (sym (gen-at n c s i hi))
+  me_is : me ≡ handle_at (view n c s) i
+  me_is = ap (λ (g : ℕ). handle g i) (sym (gen_at n c s i hi))
 
   back : slot_of p < n → cond (eqb (p / 65536) (cell_at s.words (slot_of p)).generation) (points_back me closed (state_of (cell_at s.words (slot_of p)))) true
       ≡ implies (is_open (view n c s) p) (points_at (handle_at (view n c s) i) closed (model.state_of (view n c s) p))
@@ -70,9 +70,9 @@ module _ (n c : ℕ) (s : Store) (i p : ℕ) (closed : Bool) (hi : i < n) where
       let g : ℕ = (cell_at s.words (slot_of p)).generation in
       let σ : State = state_of (cell_at s.words (slot_of p)) in
       let op : eqb (p / 65536) g && occupied σ ≡ is_open (view n c s) p =
-      ap (λ (b : Bool). b && occupied σ) (sym (gen-same g p)) ∙ ap (λ (b : Bool). b && eqb (handle g (slot_of p)) p && occupied σ) (sym (lt-ltb (slot_of p) n hp)) ∙ open-view n c s p in
+      ap (λ (b : Bool). b && occupied σ) (sym (gen_same g p)) ∙ ap (λ (b : Bool). b && eqb (handle g (slot_of p)) p && occupied σ) (sym (lt-ltb (slot_of p) n hp)) ∙ open_view n c s p in
       points me closed (eqb (p / 65536) g) (row_at n c s (slot_of p)) g σ
-      ∙ ap₂ implies op (ap₂ (λ (x : ℕ) (y : model.Slot). points_at x closed y.state) me-is (sym (seen n c s (slot_of p) σ hp refl)))
+      ∙ ap₂ implies op (ap₂ (λ (x : ℕ) (y : model.Slot). points_at x closed y.state) me_is (sym (seen n c s (slot_of p) σ hp refl)))
 
   inside : slot_of p < n → peer_checks n s.words me p closed ≡ linked_well (view n c s) i p closed
   unfolding peer_checks linked_well
@@ -80,8 +80,8 @@ module _ (n c : ℕ) (s : Store) (i p : ℕ) (closed : Bool) (hi : i < n) where
       ap₂ ◌&&◌
       (ap₂ ◌&&◌
       (ap₂ ◌&&◌ (ap (λ (b : Bool). b && leb 1 (p / 65536)) (lt-ltb (slot_of p) n hp))
-      (gen-past (cell_at s.words (slot_of p)).generation p ∙ ap (λ (g : ℕ). leb p (handle g (slot_of p))) (sym (gen-at n c s (slot_of p) hp))))
-      (ap (λ (x : ℕ). not (eqb p x)) me-is))
+      (gen_past (cell_at s.words (slot_of p)).generation p ∙ ap (λ (g : ℕ). leb p (handle g (slot_of p))) (sym (gen_at n c s (slot_of p) hp))))
+      (ap (λ (x : ℕ). not (eqb p x)) me_is))
       (back hp)
 
   outside : n ≤ slot_of p → peer_checks n s.words me p closed ≡ linked_well (view n c s) i p closed
@@ -94,7 +94,7 @@ module _ (n c : ℕ) (s : Store) (i p : ℕ) (closed : Bool) (hi : i < n) where
       ∙ no_slot p (slot_of p) (not (eqb p (handle_at (view n c s) i))) refl)))
 
   pub peers : peer_checks n s.words me p closed ≡ linked_well (view n c s) i p closed
-  peers = go (less-or (slot_of p) n)
+  peers = go (less_or (slot_of p) n)
     where
       go : (slot_of p < n) ⊎ (n ≤ slot_of p) → peer_checks n s.words me p closed ≡ linked_well (view n c s) i p closed
       go (inl h) = inside h

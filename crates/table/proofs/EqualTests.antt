@@ -8,8 +8,8 @@ same_test true b f g = sym (f refl)
 same_test false true f g = g refl
 same_test false false f g = refl
 
-pub not-both : (b : Bool) → b ≡ true → b ≡ false → ⊥
-not-both b t f = true≢false (sym t ∙ f)
+pub not_both : (b : Bool) → b ≡ true → b ≡ false → ⊥
+not_both b t f = true≢false (sym t ∙ f)
 
 pub unless : (b : Bool) → (b ≡ true → ⊥) → b ≡ false
 unless true f = absurd (f refl)

@@ -7,7 +7,7 @@ use native.Mathlib.Omega.{arith}
 use lib.Dec.{leb}
 use lib.ListN.{length}
 use borrow.Author.Tests.{leb-true}
-use Rattle.laws.proofs.Tests.{and_left, and_right, and-three, and-four}
+use Rattle.laws.proofs.Tests.{and_left, and_right, and_three, and_four}
 use Rattle.rules.specs.Run.{in_range, admission}
 use Rattle.storage.specs.Layout.{sizes_of}
 use Rattle.storage.specs.Rows.{Store, Roomy}
@@ -26,7 +26,7 @@ all_three false b d e = absurd (never 1 e)
 
 -- the numbers in range
 pub record Ranged (n c : ℕ) : Type 0 where
-  pub some-slot : 1 ≤ n
+  pub some_slot : 1 ≤ n
   pub few : n ≤ 1024
   pub some_byte : 1 ≤ c
   pub small : c ≤ 65536
@@ -34,14 +34,14 @@ pub record Ranged (n c : ℕ) : Type 0 where
 pub ranged : (n c : ℕ) → in_range n c ≡ true → Ranged n c
 unfolding in_range
 ranged n c e =
-    let l = and-four (leb 1 n) (leb n 1024) (leb 1 c) (leb c 65536) e in
-    record { some-slot = leb-true _ _ l.0; few = leb-true _ _ l.1; some_byte = leb-true _ _ l.2; small = leb-true _ _ l.3 }
+    let l = and_four (leb 1 n) (leb n 1024) (leb 1 c) (leb c 65536) e in
+    record { some_slot = leb-true _ _ l.0; few = leb-true _ _ l.1; some_byte = leb-true _ _ l.2; small = leb-true _ _ l.3 }
 
 -- the sizes
 pub fits : (n c : ℕ) (s : Store) → in_range n c ≡ true → storage_fits n c s ≡ true → Roomy n c s
 unfolding storage_fits
 fits n c s r e =
-    let l = and-three (leb (sizes_of n c).words (length s.words)) (leb (sizes_of n c).bytes (length s.bytes)) (leb (sizes_of n c).tokens (length s.tokens)) e in
+    let l = and_three (leb (sizes_of n c).words (length s.words)) (leb (sizes_of n c).bytes (length s.bytes)) (leb (sizes_of n c).tokens (length s.tokens)) e in
     let k = ranged n c r in
     record { few = k.few; small = k.small; words = leb-true _ _ l.0; bytes = leb-true _ _ l.1; tokens = leb-true _ _ l.2 }
 
@@ -53,16 +53,16 @@ admitted n c s wakes releases e =
     let f = fits n c s t.0 (and_left (storage_fits n c s) (lists_fit n c wakes releases) t.1) in
     let l : leb (sizes_of n c).wakes wakes && leb (sizes_of n c).releases releases ≡ true = and_right (storage_fits n c s) (lists_fit n c wakes releases) t.1 in
     record {
-      some-slot = k.some-slot;
+      some_slot = k.some_slot;
       few = k.few;
       some_byte = k.some_byte;
       small = k.small;
       words = f.words;
       bytes = f.bytes;
       tokens = f.tokens;
-      wake-list = leb-true _ _ (and_left (leb (sizes_of n c).wakes wakes) _ l);
-      release-list = leb-true _ _ (and_right (leb (sizes_of n c).wakes wakes) _ l);
-      is-formed = t.2;
+      wake_list = leb-true _ _ (and_left (leb (sizes_of n c).wakes wakes) _ l);
+      release_list = leb-true _ _ (and_right (leb (sizes_of n c).wakes wakes) _ l);
+      is_formed = t.2;
     }
 
 -- the rows of an admitted storage

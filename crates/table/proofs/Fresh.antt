@@ -23,8 +23,8 @@ use Rattle.storage.specs.Cells.{cell_at, words_of, state_of, plain_cell}
 use Rattle.storage.specs.Rows.{Store, lent, Roomy, row_at}
 use Rattle.storage.specs.View.{show_in, view}
 use Rattle.storage.specs.declared.Cell.{Cell}
-use Rattle.storage.proofs.Pasted.{length_part, part_at, cell-here}
-use Rattle.storage.proofs.Viewed.{size-view, at-view}
+use Rattle.storage.proofs.Pasted.{length_part, part_at, cell_here}
+use Rattle.storage.proofs.Viewed.{size_view, at_view}
 use Rattle.table.specs.Formed.{header_well, fields_well, formed}
 use Rattle.table.specs.OnePass.{generation_well, state_checks, slot_checks, checks}
 use Rattle.table.specs.Admission.{storage_fits}
@@ -34,9 +34,9 @@ use Rattle.table.proofs.Equal.{equal}
 
 -- ── What the code writes ──
 
-whole-start : (l : List ℕ) → whole l 0 ≡ l
+whole_start : (l : List ℕ) → whole l 0 ≡ l
 unfolding queued
-whole-start l = take-append_seam l l
+whole_start l = take-append_seam l l
 
 pub cleared : (n c : ℕ) (w w' : List ℕ) → 8 + 16 * n ≤ length w → whole w' 0 ≡ paste (whole (set (set w 0 n) 1 c) 0) 2 (replicate (6 + 16 * n) 0) (6 + 16 * n) → w' ≡ fresh_words n c w
 cleared n c [] w' h e = let z : 1 ≤ 0 = omega arith in absurd (not-suc-le-zero z)
@@ -45,14 +45,14 @@ cleared n c (x ∷ y ∷ w) w' h e =
     let two : 2 + (6 + 16 * n) ≡ 8 + 16 * n = omega arith in
     let behind : drop (2 + (6 + 16 * n)) (n ∷ c ∷ w) ≡ drop (8 + 16 * n) (x ∷ y ∷ w) =
     sym (drop-drop (6 + 16 * n) 2 (n ∷ c ∷ w)) ∙ drop-drop (6 + 16 * n) 2 (x ∷ y ∷ w) ∙ ap (λ (k : ℕ). drop k (x ∷ y ∷ w)) two in
-    sym (whole-start w') ∙ e ∙ ap (λ (l : List ℕ). paste l 2 (replicate (6 + 16 * n) 0) (6 + 16 * n)) (whole-start (n ∷ c ∷ w))
+    sym (whole_start w') ∙ e ∙ ap (λ (l : List ℕ). paste l 2 (replicate (6 + 16 * n) 0) (6 + 16 * n)) (whole_start (n ∷ c ∷ w))
     ∙ ap₂ (λ (l r : List ℕ). n ∷ c ∷ (l ++ r)) (take_all (6 + 16 * n) (replicate (6 + 16 * n) 0) (omega (arith, length-replicate {A = ℕ} (6 + 16 * n) 0))) behind
 
 -- ── The words of a made table ──
 
 module _ (n c : ℕ) (w : List ℕ) (h : 8 + 16 * n ≤ length w) where
-  pub made-long : length (fresh_words n c w) ≡ length w
-  made-long = omega (arith, length-append (replicate (6 + 16 * n) 0) (drop (8 + 16 * n) w), length-replicate {A = ℕ} (6 + 16 * n) 0, length-drop (8 + 16 * n) w)
+  pub made_long : length (fresh_words n c w) ≡ length w
+  made_long = omega (arith, length-append (replicate (6 + 16 * n) 0) (drop (8 + 16 * n) w), length-replicate {A = ℕ} (6 + 16 * n) 0, length-drop (8 + 16 * n) w)
 
   zero-at : (x : ℕ) → 2 ≤ x → x < 8 + 16 * n → get_or (fresh_words n c w) x 0 ≡ 0
   zero-at zero l u = absurd (not-suc-le-zero l)
@@ -63,18 +63,18 @@ module _ (n c : ℕ) (w : List ℕ) (h : 8 + 16 * n ≤ length w) where
   module _ (i : ℕ) (hi : i < n) where
     zeros : part (cell_base i) 16 (fresh_words n c w) ≡ words_of (plain_cell 0 0 0)
     zeros =
-        let e = made-long in
+        let e = made_long in
         let l : length (part (cell_base i) 16 (fresh_words n c w)) ≡ 16 = length_part (cell_base i) 16 (fresh_words n c w) (omega arith) in
         ext_get_or 0 (part (cell_base i) 16 (fresh_words n c w)) (replicate 16 0) (l ∙ sym (length-replicate {A = ℕ} 16 0))
         (λ j hj.
         let hj' : j < 16 = omega arith in
         part_at (cell_base i) 16 (fresh_words n c w) j hj' ∙ zero-at (cell_base i + j) (omega arith) (omega arith) ∙ sym (get_or-replicate 16 j 0 0 hj'))
 
-    pub made-cell : cell_at (fresh_words n c w) i ≡ plain_cell 0 0 0
-    made-cell =
-        let e = made-long in
+    pub made_cell : cell_at (fresh_words n c w) i ≡ plain_cell 0 0 0
+    made_cell =
+        let e = made_long in
         ap (λ (l : List ℕ). cell_at l i) (sym (self (fresh_words n c w) (cell_base i)) ∙ ap (λ (l : List ℕ). paste (fresh_words n c w) (cell_base i) l 16) zeros)
-        ∙ cell-here (fresh_words n c w) i (plain_cell 0 0 0) (omega arith)
+        ∙ cell_here (fresh_words n c w) i (plain_cell 0 0 0) (omega arith)
       where
         -- a part stored where it lies
         self : (l : List ℕ) (a : ℕ) → paste l a (part a 16 l) 16 ≡ l
@@ -88,40 +88,40 @@ module _ (n c : ℕ) (s : Store) (f : Roomy n c s) where
   wide : 8 + 16 * n ≤ length s.words
   wide = let z = f.words in omega arith
 
-  pub made-roomy : Roomy n c (made n c s)
-  made-roomy =
+  pub made_roomy : Roomy n c (made n c s)
+  made_roomy =
       let z = f.words in
-      record { few = f.few; small = f.small; words = omega (arith, made-long n c s.words wide); bytes = f.bytes; tokens = f.tokens }
+      record { few = f.few; small = f.small; words = omega (arith, made_long n c s.words wide); bytes = f.bytes; tokens = f.tokens }
 
-  made-slot : (i : ℕ) → i < n → at (view n c (made n c s)) i ≡ vacant
+  made_slot : (i : ℕ) → i < n → at (view n c (made n c s)) i ≡ vacant
   unfolding row_at show_in state_of
-  made-slot i hi = at-view n c (made n c s) i hi ∙ ap (λ (k : Cell). show_in (row_at n c (made n c s) i) k.generation (state_of k)) (made-cell n c s.words wide i hi)
+  made_slot i hi = at_view n c (made n c s) i hi ∙ ap (λ (k : Cell). show_in (row_at n c (made n c s) i) k.generation (state_of k)) (made_cell n c s.words wide i hi)
 
-  pub made-shows : view n c (made n c s) ≡ fresh n c
+  pub made_shows : view n c (made n c s) ≡ fresh n c
   unfolding view
-  made-shows =
+  made_shows =
       ap (λ (l : List model.Slot). record { capacity = c; slots = l })
-      (ext_get_or vacant (view n c (made n c s)).slots (replicate n vacant) (size-view n c (made n c s) ∙ sym (length-replicate n vacant))
+      (ext_get_or vacant (view n c (made n c s)).slots (replicate n vacant) (size_view n c (made n c s) ∙ sym (length-replicate n vacant))
       (λ i hi.
-      let hi' : i < n = omega (arith, size-view n c (made n c s)) in
-      made-slot i hi' ∙ sym (get_or-replicate n i vacant vacant hi')))
+      let hi' : i < n = omega (arith, size_view n c (made n c s)) in
+      made_slot i hi' ∙ sym (get_or-replicate n i vacant vacant hi')))
 
-  made-header : header_well n c (fresh_words n c s.words) ≡ true
+  made_header : header_well n c (fresh_words n c s.words) ≡ true
   unfolding header_well
-  made-header =
+  made_header =
       let e : every 6 (λ k. eqb (get_or (fresh_words n c s.words) (2 + k) 0) 0) ≡ true =
       at_every 6 (λ k. eqb (get_or (fresh_words n c s.words) (2 + k) 0) 0) (λ k hk. eq-eqb _ 0 (zero-at n c s.words wide (2 + k) (omega arith) (omega arith))) in
       rw (eq-eqb n n refl, eq-eqb c c refl) e
 
-  made-passes : (i : ℕ) → i < n → slot_checks n c (fresh_words n c s.words) s.bytes i ≡ true
+  made_passes : (i : ℕ) → i < n → slot_checks n c (fresh_words n c s.words) s.bytes i ≡ true
   unfolding slot_checks generation_well fields_well state_of state_checks
-  made-passes i hi =
-      ap (λ (k : Cell). generation_well k && fields_well k && state_checks n c (fresh_words n c s.words) s.bytes i (state_of k)) (made-cell n c s.words wide i hi)
+  made_passes i hi =
+      ap (λ (k : Cell). generation_well k && fields_well k && state_checks n c (fresh_words n c s.words) s.bytes i (state_of k)) (made_cell n c s.words wide i hi)
 
-  pub made-well : in_range n c ≡ true → formed n c (made n c s) ≡ true
+  pub made_well : in_range n c ≡ true → formed n c (made n c s) ≡ true
   unfolding checks
-  made-well r =
-      sym (equal n c (made n c s) r made-roomy) ∙ rw made-header (at_every n (slot_checks n c (fresh_words n c s.words) s.bytes) made-passes)
+  made_well r =
+      sym (equal n c (made n c s) r made_roomy) ∙ rw made_header (at_every n (slot_checks n c (fresh_words n c s.words) s.bytes) made_passes)
 
 -- ── The returns of make ──
 
@@ -129,28 +129,28 @@ never : (n : ℕ) → suc n ≢ 0
 never n e = omega arith
 
 module _ (n c : ℕ) (w b t : List ℕ) (p : Bool) (ep : p ≡ in_range n c) where
-  pub make-range : not p ≡ true → Makes n c (lent w b t) (lent w b t) (Verdict.Refused EINVAL)
+  pub make_range : not p ≡ true → Makes n c (lent w b t) (lent w b t) (Verdict.Refused EINVAL)
   unfolding make_no
-  make-range tp =
+  make_range tp =
       let e : make_no n c (lent w b t) ≡ 2 = rw (sym ep ∙ not-true p tp) in
       record { answers = sym e; storage = rw e; shows = λ z. absurd (never 1 (sym e ∙ z)); well = λ z. absurd (never 1 (sym e ∙ z)) }
 
   module _ (tp : not p ≡ false) (q : Bool) (eq : q ≡ storage_fits n c (lent w b t)) where
-    pub make-short : not q ≡ true → Makes n c (lent w b t) (lent w b t) (Verdict.Refused SHORT)
+    pub make_short : not q ≡ true → Makes n c (lent w b t) (lent w b t) (Verdict.Refused SHORT)
     unfolding make_no
-    make-short tq =
+    make_short tq =
         let e : make_no n c (lent w b t) ≡ 18 = rw (sym ep ∙ not-false p tp, sym eq ∙ not-true q tq) in
         record { answers = sym e; storage = rw e; shows = λ z. absurd (never 17 (sym e ∙ z)); well = λ z. absurd (never 17 (sym e ∙ z)) }
 
-    pub make-done : (w' : List ℕ) → not q ≡ false → w' ≡ fresh_words n c w → Makes n c (lent w b t) (lent w' b t) Verdict.Accepted
+    pub make_done : (w' : List ℕ) → not q ≡ false → w' ≡ fresh_words n c w → Makes n c (lent w b t) (lent w' b t) Verdict.Accepted
     unfolding make_no
-    make-done w' tq ew =
+    make_done w' tq ew =
         let r : in_range n c ≡ true = sym ep ∙ not-false p tp in
         let f : Roomy n c (lent w b t) = fits n c (lent w b t) r (sym eq ∙ not-false q tq) in
         let e : make_no n c (lent w b t) ≡ 0 = rw (r, sym eq ∙ not-false q tq) in
         record {
           answers = sym e;
           storage = rw (e, ew);
-          shows = λ z. rw ew (made-shows n c (lent w b t) f);
-          well = λ z. rw ew (made-well n c (lent w b t) f r);
+          shows = λ z. rw ew (made_shows n c (lent w b t) f);
+          well = λ z. rw ew (made_well n c (lent w b t) f r);
         }

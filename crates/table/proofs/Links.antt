@@ -11,15 +11,15 @@ use native.Mathlib.Omega.{arith}
 use lib.Dec.{leb, ltb, eqb}
 use lib.ListN.{length, get_or}
 use borrow.Author.Tests.{lt-ltb, ltb-true, le-leb, lt-leb, eqb-true, eq-eqb, ne_eqb}
-use Rattle.laws.proofs.Tests.{and-three, and_left, and_right, less-or}
+use Rattle.laws.proofs.Tests.{and_three, and_left, and_right, less_or}
 use Rattle.ring.specs.Ring.{place_of, queued}
-use Rattle.ring.proofs.Queued.{Place, place_in, queued-length, queued-at}
+use Rattle.ring.proofs.Queued.{Place, place_in, queued-length, queued_at}
 use Rattle.ring.proofs.Copying.{place_is}
 use Rattle.rules.specs.Table as model
 use Rattle.rules.specs.Table.{slot_of, handle, handle_at, at, is_open}
 use Rattle.rules.specs.Ending as ending
-use Rattle.rules.proofs.YesNo.{every-at, at_every}
-use Rattle.rules.proofs.Frame.{in-range, open_at, open-used, given_of}
+use Rattle.rules.proofs.YesNo.{every_at, at_every}
+use Rattle.rules.proofs.Frame.{in-range, open_at, open_used, given_of}
 use Rattle.rules.proofs.Formed.{Formed}
 use Rattle.storage.specs.Layout.{queue_base}
 use Rattle.storage.specs.Cells.{cell_at, state_of}
@@ -29,8 +29,8 @@ use Rattle.storage.specs.declared.State.{State}
 use Rattle.storage.specs.declared.State.TheVariants.{Closed, Unbound, Bound, Listening, Connected}
 use Rattle.storage.specs.declared.Listener.{Listener}
 use Rattle.storage.specs.declared.Connection.{Connection}
-use Rattle.storage.proofs.Coding.{connected-inj}
-use Rattle.storage.proofs.Viewed.{seen, size-view}
+use Rattle.storage.proofs.Coding.{connected_inj}
+use Rattle.storage.proofs.Viewed.{seen, size_view}
 use Rattle.storage.proofs.Pasted.{length_part}
 use Rattle.storage.proofs.Strides.{row_before}
 use Rattle.table.specs.Formed.{queue_in, waits_at, server_well, ahead, stands_at, tied_state, tied}
@@ -48,12 +48,12 @@ index-mem (x ∷ q) (suc k) h = Memᴰ.tail (index-mem q k (omega arith))
 
 -- ── Places in a ring of n ──
 
-pub place-ring : (n a k : ℕ) → a < n → k < n → place_of n (a + k) < n
-place-ring n a k ha hk = place_in (place_is n (a + k) (place_of n (a + k)) refl) (omega arith)
+pub place_ring : (n a k : ℕ) → a < n → k < n → place_of n (a + k) < n
+place_ring n a k ha hk = place_in (place_is n (a + k) (place_of n (a + k)) refl) (omega arith)
 
-pub ahead-place : (n a k : ℕ) → a < n → k < n → ahead n a (place_of n (a + k)) ≡ k
+pub ahead_place : (n a k : ℕ) → a < n → k < n → ahead n a (place_of n (a + k)) ≡ k
 unfolding ahead
-ahead-place n a k ha hk = go (less-or (a + k) n)
+ahead_place n a k ha hk = go (less_or (a + k) n)
   where
     p : Place n (a + k) (place_of n (a + k))
     p = place_is n (a + k) (place_of n (a + k)) refl
@@ -62,9 +62,9 @@ ahead-place n a k ha hk = go (less-or (a + k) n)
     go (inl h) = let e = p.low h in rw (le-leb a (place_of n (a + k)) (omega arith)) (omega arith)
     go (inr h) = let e = p.high h in rw (lt-leb a (place_of n (a + k)) (omega arith)) (omega arith)
 
-pub place-ahead : (n a x : ℕ) → a < n → x < n → place_of n (a + ahead n a x) ≡ x
+pub place_ahead : (n a x : ℕ) → a < n → x < n → place_of n (a + ahead n a x) ≡ x
 unfolding ahead
-place-ahead n a x ha hx = go (less-or x a)
+place_ahead n a x ha hx = go (less_or x a)
   where
     go : (x < a) ⊎ (a ≤ x) → place_of n (a + cond (leb a x) (x - a) (x + n - a)) ≡ x
     go (inl h) = rw (lt-leb a x h) (let z = (place_is n (a + (x + n - a)) (place_of n (a + (x + n - a))) refl).high (omega arith) in omega arith)
@@ -76,46 +76,46 @@ pub record Entry (n : ℕ) (w : List ℕ) (l x h : ℕ) : Type 0 where
   pub within : slot_of h < n
   pub whole : handle (cell_at w (slot_of h)).generation (slot_of h) ≡ h
   pub server : Connection
-  pub is-server : state_of (cell_at w (slot_of h)) ≡ Connected server
+  pub is_server : state_of (cell_at w (slot_of h)) ≡ Connected server
   pub waits_there : server.waits ≡ l + 1
-  pub stands-there : server.place ≡ x
+  pub stands_there : server.place ≡ x
 
-waits-is : (l x : ℕ) (σ : State) → waits_at l x σ ≡ true → (k : Connection) × (σ ≡ Connected k) × (k.waits ≡ l) × (k.place ≡ x)
+waits_is : (l x : ℕ) (σ : State) → waits_at l x σ ≡ true → (k : Connection) × (σ ≡ Connected k) × (k.waits ≡ l) × (k.place ≡ x)
 unfolding waits_at
-waits-is l x Closed e = absurd (false≢true e)
-waits-is l x Unbound e = absurd (false≢true e)
-waits-is l x (Bound m) e = absurd (false≢true e)
-waits-is l x (Listening q) e = absurd (false≢true e)
-waits-is l x (Connected k) e = (k, refl, eqb-true k.waits l (and_left _ _ e), eqb-true k.place x (and_right (eqb k.waits l) _ e))
+waits_is l x Closed e = absurd (false≢true e)
+waits_is l x Unbound e = absurd (false≢true e)
+waits_is l x (Bound m) e = absurd (false≢true e)
+waits_is l x (Listening q) e = absurd (false≢true e)
+waits_is l x (Connected k) e = (k, refl, eqb-true k.waits l (and_left _ _ e), eqb-true k.place x (and_right (eqb k.waits l) _ e))
 
 pub entry_of : (n : ℕ) (w : List ℕ) (l x h : ℕ) → server_well n w l x h ≡ true → Entry n w l x h
 unfolding server_well
 entry_of n w l x h e =
-    let p = and-three (ltb (slot_of h) n) (eqb (handle (cell_at w (slot_of h)).generation (slot_of h)) h) (waits_at (l + 1) x (state_of (cell_at w (slot_of h)))) e in
-    let k = waits-is (l + 1) x (state_of (cell_at w (slot_of h))) p.2 in
-    record { within = ltb-true (slot_of h) n p.0; whole = eqb-true _ _ p.1; server = k.0; is-server = k.1; waits_there = k.2; stands-there = k.3 }
+    let p = and_three (ltb (slot_of h) n) (eqb (handle (cell_at w (slot_of h)).generation (slot_of h)) h) (waits_at (l + 1) x (state_of (cell_at w (slot_of h)))) e in
+    let k = waits_is (l + 1) x (state_of (cell_at w (slot_of h))) p.2 in
+    record { within = ltb-true (slot_of h) n p.0; whole = eqb-true _ _ p.1; server = k.0; is_server = k.1; waits_there = k.2; stands_there = k.3 }
 
 pub of_entry : (n : ℕ) (w : List ℕ) (l x h : ℕ) → Entry n w l x h → server_well n w l x h ≡ true
 unfolding server_well waits_at
 of_entry n w l x h e =
-    rw (lt-ltb (slot_of h) n e.within, eq-eqb _ _ e.whole, e.is-server, eq-eqb _ _ e.waits_there, eq-eqb _ _ e.stands-there)
+    rw (lt-ltb (slot_of h) n e.within, eq-eqb _ _ e.whole, e.is_server, eq-eqb _ _ e.waits_there, eq-eqb _ _ e.stands_there)
 
 -- all entries of the listener q in slot l
 pub record Entries (n : ℕ) (w : List ℕ) (l : ℕ) (q : Listener) : Type 0 where
   pub each : (k : ℕ) → k < q.pending → Entry n w l (place_of n (q.head + k)) (get_or (queue_in n w l) (place_of n (q.head + k)) 0)
 
-pub entries-of : (n : ℕ) (w : List ℕ) (l : ℕ) (q : Listener) → tied_state n w l (Listening q) ≡ true → Entries n w l q
+pub entries_of : (n : ℕ) (w : List ℕ) (l : ℕ) (q : Listener) → tied_state n w l (Listening q) ≡ true → Entries n w l q
 unfolding tied_state
-entries-of n w l q e = record { each = λ k h. entry_of n w l _ _ (every-at q.pending _ k e h) }
+entries_of n w l q e = record { each = λ k h. entry_of n w l _ _ (every_at q.pending _ k e h) }
 
-of-entries : (n : ℕ) (w : List ℕ) (l : ℕ) (q : Listener) → Entries n w l q → tied_state n w l (Listening q) ≡ true
+of_entries : (n : ℕ) (w : List ℕ) (l : ℕ) (q : Listener) → Entries n w l q → tied_state n w l (Listening q) ≡ true
 unfolding tied_state
-of-entries n w l q e = at_every q.pending _ (λ k h. of_entry n w l _ _ (e.each k h))
+of_entries n w l q e = at_every q.pending _ (λ k h. of_entry n w l _ _ (e.each k h))
 
-stands-true : (n : ℕ) (w : List ℕ) (i : ℕ) (k : Connection) (l x j h : ℕ) (q : Listener) → k.waits ≡ l + 1 → k.place ≡ x → l < n → x < n → ahead n q.head x ≡ j → j < q.pending
+stands_true : (n : ℕ) (w : List ℕ) (i : ℕ) (k : Connection) (l x j h : ℕ) (q : Listener) → k.waits ≡ l + 1 → k.place ≡ x → l < n → x < n → ahead n q.head x ≡ j → j < q.pending
     → state_of (cell_at w l) ≡ Listening q → get_or (queue_in n w l) x 0 ≡ h → handle (cell_at w i).generation i ≡ h → tied_state n w i (Connected k) ≡ true
 unfolding tied_state stands_at
-stands-true n w i k l x j h q ew ex hl hx ea hj el eh em =
+stands_true n w i k l x j h q ew ex hl hx ea hj el eh em =
     let back : k.waits - 1 ≡ l = omega arith in
     rw (ne_eqb k.waits 0 (λ z. omega arith), le-leb k.waits n (omega arith), back, el, ex, lt-ltb x n hx, ea, lt-ltb j q.pending hj, eh, em, eq-eqb h h refl)
 
@@ -130,18 +130,18 @@ module _ (n c : ℕ) (s : Store) (f : Roomy n c s) where
   queue-length l q hl hh hp = let z = queue_long l hl in queued-length (queue_in n s.words l) q.head (omega arith) q.pending (omega arith)
 
   -- the entries of a queue, by their places
-  pub queue-at : (l : ℕ) (q : Listener) (k : ℕ) → l < n → q.head < n → q.pending ≤ n → k < q.pending
+  pub queue_at : (l : ℕ) (q : Listener) (k : ℕ) → l < n → q.head < n → q.pending ≤ n → k < q.pending
       → get_or (queued (queue_in n s.words l) q.head q.pending) k 0 ≡ get_or (queue_in n s.words l) (place_of n (q.head + k)) 0
-  queue-at l q k hl hh hp hk =
+  queue_at l q k hl hh hp hk =
       let e = queue_long l hl in
-      queued-at (queue_in n s.words l) q.head (omega arith) q.pending k (place_of n (q.head + k)) hk (omega arith) (rw e (place_is n (q.head + k) (place_of n (q.head + k)) refl))
+      queued_at (queue_in n s.words l) q.head (omega arith) q.pending k (place_of n (q.head + k)) hk (omega arith) (rw e (place_is n (q.head + k) (place_of n (q.head + k)) refl))
 
 -- ── Each server stands where it says ──
 
 module _ (n c : ℕ) (s : Store) (f : Roomy n c s) (g : Formed (view n c s)) where
   -- an open socket's slot is one of n
-  pub open-within : (h : ℕ) → is_open (view n c s) h ≡ true → slot_of h < n
-  open-within h o = let z = in-range (view n c s) (slot_of h) (open-used (view n c s) h o) in omega (arith, size-view n c s)
+  pub open_within : (h : ℕ) → is_open (view n c s) h ≡ true → slot_of h < n
+  open_within h o = let z = in-range (view n c s) (slot_of h) (open_used (view n c s) h o) in omega (arith, size_view n c s)
 
   -- a slot whose table state has a queue is a listener
   listens : (l : ℕ) (x : ℕ) → l < n → Memᴰ x (ending.queued (at (view n c s) l).state) → (q : Listener) × (state_of (cell_at s.words l) ≡ Listening q) × Memᴰ x (queued (queue_in n s.words l) q.head q.pending)
@@ -167,7 +167,7 @@ module _ (n c : ℕ) (s : Store) (f : Roomy n c s) (g : Formed (view n c s)) whe
         let hid : (at (view n c s) (slot_of h)).given ≡ false = ap (λ (x : ℕ). (at (view n c s) x).given) o.0 ∙ ap (λ (x : model.Slot). x.given) mine ∙ ne_eqb k.waits 0 nz in
         let owner = g.sound.queues.owned h o.1 hid in
         let l : ℕ = slot_of owner.by in
-        let hl : l < n = open-within owner.by owner.open' in
+        let hl : l < n = open_within owner.by owner.open' in
         let lis = listens l h hl owner.holds' in
         let q : Listener = lis.0 in
         let r = ok l hl q lis.1 in
@@ -176,22 +176,22 @@ module _ (n c : ℕ) (s : Store) (f : Roomy n c s) (g : Formed (view n c s)) whe
         let lq = queue-length n c s f l q hl r.0 r.1 in
         let hj : j < q.pending = let z = ix.1 in omega arith in
         let x : ℕ = place_of n (q.head + j) in
-        let is-h : get_or (queue_in n s.words l) x 0 ≡ h = sym (queue-at n c s f l q j hl r.0 r.1 hj) ∙ ix.2 in
-        let en : Entry n s.words l x h = subst (λ (y : ℕ). Entry n s.words l x y) is-h (r.2.each j hj) in
-        let same : k ≡ en.server = connected-inj (sym e ∙ ap (λ (y : ℕ). state_of (cell_at s.words y)) (sym o.0) ∙ en.is-server) in
+        let is_h : get_or (queue_in n s.words l) x 0 ≡ h = sym (queue_at n c s f l q j hl r.0 r.1 hj) ∙ ix.2 in
+        let en : Entry n s.words l x h = subst (λ (y : ℕ). Entry n s.words l x y) is_h (r.2.each j hj) in
+        let same : k ≡ en.server = connected_inj (sym e ∙ ap (λ (y : ℕ). state_of (cell_at s.words y)) (sym o.0) ∙ en.is_server) in
         let ew : k.waits ≡ l + 1 = ap (λ (y : Connection). y.waits) same ∙ en.waits_there in
-        let ex : k.place ≡ x = ap (λ (y : Connection). y.place) same ∙ en.stands-there in
+        let ex : k.place ≡ x = ap (λ (y : Connection). y.place) same ∙ en.stands_there in
         let gen : (cell_at s.words i).generation ≡ (at (view n c s) i).gen = sym (ap (λ (y : model.Slot). y.gen) mine) in
-        let hx : x < n = place-ring n q.head j r.0 (let z = r.1 in omega arith) in
-        stands-true n s.words i k l x j h q ew ex hl hx (ahead-place n q.head j r.0 (let z = r.1 in omega arith)) hj lis.1 is-h (ap (λ (y : ℕ). handle y i) gen)
+        let hx : x < n = place_ring n q.head j r.0 (let z = r.1 in omega arith) in
+        stands_true n s.words i k l x j h q ew ex hl hx (ahead_place n q.head j r.0 (let z = r.1 in omega arith)) hj lis.1 is_h (ap (λ (y : ℕ). handle y i) gen)
 
-    pub tied-up : (i : ℕ) → i < n → tied n s.words i ≡ true
+    pub tied_up : (i : ℕ) → i < n → tied n s.words i ≡ true
     unfolding tied tied_state
-    tied-up i hi = go (state_of (cell_at s.words i)) refl
+    tied_up i hi = go (state_of (cell_at s.words i)) refl
       where
         go : (σ : State) → state_of (cell_at s.words i) ≡ σ → tied_state n s.words i σ ≡ true
         go Closed e = refl
         go Unbound e = refl
         go (Bound m) e = refl
-        go (Listening q) e = of-entries n s.words i q (ok i hi q e).2
+        go (Listening q) e = of_entries n s.words i q (ok i hi q e).2
         go (Connected k) e = elim (dec_eq k.waits 0) [ yes z ↦ rw (eq-eqb k.waits 0 z) | no nz ↦ stands i k hi e nz ]

@@ -14,73 +14,73 @@ use Rattle.storage.specs.declared.Listener.{Listener}
 use Rattle.storage.specs.declared.State.{State}
 use Rattle.table.specs.Formed.{no_name, no_queue, no_pair, pair_fields, fields_well}
 use Rattle.table.specs.OnePass.{generation_well}
-use Rattle.table.proofs.Conjunctions.{or-on, or_off}
+use Rattle.table.proofs.Conjunctions.{or_on, or_off}
 
 module _ (k : Cell) where
-  pub name-none : eqb k.name 0 ≡ no_name k
+  pub name_none : eqb k.name 0 ≡ no_name k
   unfolding no_name
-  name-none = refl
+  name_none = refl
 
-  pub queue-none : eqb (bit_or (bit_or k.backlog k.head) k.pending) 0 ≡ no_queue k
+  pub queue_none : eqb (bit_or (bit_or k.backlog k.head) k.pending) 0 ≡ no_queue k
   unfolding no_queue
-  queue-none = simp or-eqb
+  queue_none = simp or-eqb
 
-  pub pair-none : eqb (bit_or (bit_or (bit_or (bit_or (bit_or (bit_or (bit_or (bit_or (bit_or k.peer k.inbox_closed) k.outbox_closed) k.byte) k.written_total) k.read_total) k.first) k.items) k.waits) k.place) 0 ≡ no_pair k
+  pub pair_none : eqb (bit_or (bit_or (bit_or (bit_or (bit_or (bit_or (bit_or (bit_or (bit_or k.peer k.inbox_closed) k.outbox_closed) k.byte) k.written_total) k.read_total) k.first) k.items) k.waits) k.place) 0 ≡ no_pair k
   unfolding no_pair
-  pair-none = simp or-eqb
+  pair_none = simp or-eqb
 
   -- ── By tag ──
 
-  pub fields-closed : k.tag ≡ 0 → true ≡ fields_well k
+  pub fields_closed : k.tag ≡ 0 → true ≡ fields_well k
   unfolding fields_well
-  fields-closed e = rw e
+  fields_closed e = rw e
 
-  pub fields-unbound : (r : Bool) → k.tag ≡ 1 → r ≡ no_name k && no_queue k && no_pair k → r ≡ fields_well k
+  pub fields_unbound : (r : Bool) → k.tag ≡ 1 → r ≡ no_name k && no_queue k && no_pair k → r ≡ fields_well k
   unfolding fields_well no_name no_queue no_pair
-  fields-unbound r e z = rw e z
+  fields_unbound r e z = rw e z
 
-  pub fields-bound : (r : Bool) → k.tag ≡ 2 → r ≡ no_queue k && no_pair k → r ≡ fields_well k
+  pub fields_bound : (r : Bool) → k.tag ≡ 2 → r ≡ no_queue k && no_pair k → r ≡ fields_well k
   unfolding fields_well no_queue no_pair
-  fields-bound r e z = rw e z
+  fields_bound r e z = rw e z
 
-  pub fields-listening : (r : Bool) → k.tag ≡ 3 → r ≡ no_pair k → r ≡ fields_well k
+  pub fields_listening : (r : Bool) → k.tag ≡ 3 → r ≡ no_pair k → r ≡ fields_well k
   unfolding fields_well no_pair
-  fields-listening r e z = rw e z
+  fields_listening r e z = rw e z
 
-  pub fields-connected : (r : Bool) → k.tag ≡ 4 → r ≡ no_name k && no_queue k && pair_fields k → r ≡ fields_well k
+  pub fields_connected : (r : Bool) → k.tag ≡ 4 → r ≡ no_name k && no_queue k && pair_fields k → r ≡ fields_well k
   unfolding fields_well no_name no_queue pair_fields
-  fields-connected r e z = rw e z
+  fields_connected r e z = rw e z
 
-  pub fields-other : k.tag ≢ 0 → k.tag ≢ 1 → k.tag ≢ 2 → k.tag ≢ 3 → k.tag ≢ 4 → false ≡ fields_well k
+  pub fields_other : k.tag ≢ 0 → k.tag ≢ 1 → k.tag ≢ 2 → k.tag ≢ 3 → k.tag ≢ 4 → false ≡ fields_well k
   unfolding fields_well
-  fields-other a b c d e = rw (ne_eqb k.tag 0 a, ne_eqb k.tag 1 b, ne_eqb k.tag 2 c, ne_eqb k.tag 3 d, ne_eqb k.tag 4 e)
+  fields_other a b c d e = rw (ne_eqb k.tag 0 a, ne_eqb k.tag 1 b, ne_eqb k.tag 2 c, ne_eqb k.tag 3 d, ne_eqb k.tag 4 e)
 
   -- ── Generations ──
 
-  pub too-old : 4294967295 < k.generation → false ≡ generation_well k
+  pub too_old : 4294967295 < k.generation → false ≡ generation_well k
   unfolding generation_well
-  too-old h = rw (lt-leb k.generation 4294967295 h)
+  too_old h = rw (lt-leb k.generation 4294967295 h)
 
-  pub has-lived : k.generation ≤ 4294967295 → 1 ≤ k.generation → true ≡ generation_well k
+  pub has_lived : k.generation ≤ 4294967295 → 1 ≤ k.generation → true ≡ generation_well k
   unfolding generation_well
-  has-lived h l = rw (le-leb k.generation 4294967295 h, le-leb 1 k.generation l) (or-on (not (occupied (state_of k))))
+  has_lived h l = rw (le-leb k.generation 4294967295 h, le-leb 1 k.generation l) (or_on (not (occupied (state_of k))))
 
-  pub never-lived : (σ : State) (r : Bool) → k.generation ≤ 4294967295 → k.generation < 1 → σ ≡ state_of k → r ≡ occupied σ → not r ≡ generation_well k
+  pub never_lived : (σ : State) (r : Bool) → k.generation ≤ 4294967295 → k.generation < 1 → σ ≡ state_of k → r ≡ occupied σ → not r ≡ generation_well k
   unfolding generation_well
-  never-lived σ r h l es er =
+  never_lived σ r h l es er =
       ap not (er ∙ ap occupied es) ∙ or_off (not (occupied (state_of k))) ∙ rw (le-leb k.generation 4294967295 h, lt-leb 1 k.generation l)
 
 -- ── A listener ──
 
 module _ (n : ℕ) (l : Listener) where
-  pub name-long : 255 < l.name → false ≡ leb l.name 255 && ltb l.backlog 4294967296 && ltb l.head n && leb l.pending n
-  name-long h = rw (lt-leb l.name 255 h)
+  pub name_long : 255 < l.name → false ≡ leb l.name 255 && ltb l.backlog 4294967296 && ltb l.head n && leb l.pending n
+  name_long h = rw (lt-leb l.name 255 h)
 
-  pub backlog-large : l.name ≤ 255 → 4294967296 ≤ l.backlog → false ≡ leb l.name 255 && ltb l.backlog 4294967296 && ltb l.head n && leb l.pending n
-  backlog-large a h = rw (le-leb l.name 255 a, le-ltb l.backlog 4294967296 h)
+  pub backlog_large : l.name ≤ 255 → 4294967296 ≤ l.backlog → false ≡ leb l.name 255 && ltb l.backlog 4294967296 && ltb l.head n && leb l.pending n
+  backlog_large a h = rw (le-leb l.name 255 a, le-ltb l.backlog 4294967296 h)
 
-  pub queue-out : l.name ≤ 255 → l.backlog < 4294967296 → n ≤ l.head → false ≡ leb l.name 255 && ltb l.backlog 4294967296 && ltb l.head n && leb l.pending n
-  queue-out a b h = rw (le-leb l.name 255 a, lt-ltb l.backlog 4294967296 b, le-ltb l.head n h)
+  pub queue_out : l.name ≤ 255 → l.backlog < 4294967296 → n ≤ l.head → false ≡ leb l.name 255 && ltb l.backlog 4294967296 && ltb l.head n && leb l.pending n
+  queue_out a b h = rw (le-leb l.name 255 a, lt-ltb l.backlog 4294967296 b, le-ltb l.head n h)
 
-  pub queue-size : l.name ≤ 255 → l.backlog < 4294967296 → l.head < n → leb l.pending n ≡ leb l.name 255 && ltb l.backlog 4294967296 && ltb l.head n && leb l.pending n
-  queue-size a b h = rw (le-leb l.name 255 a, lt-ltb l.backlog 4294967296 b, lt-ltb l.head n h)
+  pub queue_size : l.name ≤ 255 → l.backlog < 4294967296 → l.head < n → leb l.pending n ≡ leb l.name 255 && ltb l.backlog 4294967296 && ltb l.head n && leb l.pending n
+  queue_size a b h = rw (le-leb l.name 255 a, lt-ltb l.backlog 4294967296 b, lt-ltb l.head n h)

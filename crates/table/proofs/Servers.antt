@@ -8,7 +8,7 @@ use native.Mathlib.Omega.{arith}
 use lib.Dec.{ltb, eqb}
 use lib.ListN.{get_or}
 use borrow.Author.Tests.{lt-ltb, le-ltb, le-leb, lt-leb, eq-eqb, ne_eqb, not-true, not-false}
-use Rattle.laws.proofs.Tests.{and-three}
+use Rattle.laws.proofs.Tests.{and_three}
 use Rattle.ring.specs.Ring.{place_of}
 use Rattle.rules.specs.Table.{slot_of, handle}
 use Rattle.storage.specs.Layout.{queue_base}
@@ -19,65 +19,65 @@ use Rattle.storage.specs.declared.Listener.{Listener}
 use Rattle.storage.specs.declared.Connection.{Connection}
 use Rattle.storage.specs.declared.State.{State}
 use Rattle.storage.specs.declared.State.TheVariants.{Closed, Unbound, Bound, Listening, Connected}
-use Rattle.storage.proofs.Coding.{loaded-state, loaded_at}
+use Rattle.storage.proofs.Coding.{loaded_state, loaded_at}
 use Rattle.storage.proofs.Pasted.{part_at}
 use Rattle.table.specs.Formed.{queue_in, waits_at, server_well, ahead, stands_at, tied_state}
-use Rattle.table.proofs.Conjunctions.{nope, AllBefore, all_done, one-fails}
+use Rattle.table.proofs.Conjunctions.{nope, AllBefore, all_done, one_fails}
 
 -- ── A server's own words ──
 
 module _ (l x : ℕ) (σ : State) where
-  pub waits-closed : σ ≡ Closed → false ≡ waits_at l x σ
+  pub waits_closed : σ ≡ Closed → false ≡ waits_at l x σ
   unfolding waits_at
-  waits-closed e = rw e
+  waits_closed e = rw e
 
-  pub waits-unbound : σ ≡ Unbound → false ≡ waits_at l x σ
+  pub waits_unbound : σ ≡ Unbound → false ≡ waits_at l x σ
   unfolding waits_at
-  waits-unbound e = rw e
+  waits_unbound e = rw e
 
-  pub waits-bound : (m : ℕ) → σ ≡ Bound m → false ≡ waits_at l x σ
+  pub waits_bound : (m : ℕ) → σ ≡ Bound m → false ≡ waits_at l x σ
   unfolding waits_at
-  waits-bound m e = rw e
+  waits_bound m e = rw e
 
-  pub waits-listening : (k : Listener) → σ ≡ Listening k → false ≡ waits_at l x σ
+  pub waits_listening : (k : Listener) → σ ≡ Listening k → false ≡ waits_at l x σ
   unfolding waits_at
-  waits-listening k e = rw e
+  waits_listening k e = rw e
 
-  pub waits-elsewhere : (k : Connection) → σ ≡ Connected k → k.waits ≢ l → false ≡ waits_at l x σ
+  pub waits_elsewhere : (k : Connection) → σ ≡ Connected k → k.waits ≢ l → false ≡ waits_at l x σ
   unfolding waits_at
-  waits-elsewhere k e ne = rw (e, ne_eqb k.waits l ne)
+  waits_elsewhere k e ne = rw (e, ne_eqb k.waits l ne)
 
   pub waits_there : (k : Connection) → σ ≡ Connected k → k.waits ≡ l → eqb k.place x ≡ waits_at l x σ
   unfolding waits_at
   waits_there k e z = rw (e, eq-eqb k.waits l z)
 
-waits-open : (l x : ℕ) (σ : State) → waits_at l x σ ≡ true → occupied σ ≡ true
+waits_open : (l x : ℕ) (σ : State) → waits_at l x σ ≡ true → occupied σ ≡ true
 unfolding waits_at
-waits-open l x Closed e = absurd (false≢true e)
-waits-open l x Unbound e = refl
-waits-open l x (Bound m) e = refl
-waits-open l x (Listening k) e = refl
-waits-open l x (Connected k) e = refl
+waits_open l x Closed e = absurd (false≢true e)
+waits_open l x Unbound e = refl
+waits_open l x (Bound m) e = refl
+waits_open l x (Listening k) e = refl
+waits_open l x (Connected k) e = refl
 
 -- ── An entry ──
 
 module _ (n : ℕ) (w : List ℕ) (i x h : ℕ) (o : Bool) (eo : o ≡ open_in n w h) where
-  pub not-server : not o ≡ true → false ≡ server_well n w i x h
+  pub not_server : not o ≡ true → false ≡ server_well n w i x h
   unfolding server_well open_in
-  not-server t =
+  not_server t =
       nope (server_well n w i x h)
       (λ e.
-      let a = and-three (ltb (slot_of h) n) (eqb (handle (cell_at w (slot_of h)).generation (slot_of h)) h) (waits_at (i + 1) x (state_of (cell_at w (slot_of h)))) e in
-      let z : open_in n w h ≡ true = rw (a.0, a.1) (waits-open (i + 1) x (state_of (cell_at w (slot_of h))) a.2) in
+      let a = and_three (ltb (slot_of h) n) (eqb (handle (cell_at w (slot_of h)).generation (slot_of h)) h) (waits_at (i + 1) x (state_of (cell_at w (slot_of h)))) e in
+      let z : open_in n w h ≡ true = rw (a.0, a.1) (waits_open (i + 1) x (state_of (cell_at w (slot_of h))) a.2) in
       false≢true (sym (not-true o t) ∙ eo ∙ z))
 
-  pub server-says : (j : ℕ) (s : Slot) (r : Bool) → not o ≡ false → j ≡ slot_of h → s ≡ loaded_at w j → r ≡ waits_at (i + 1) x s.state
+  pub server_says : (j : ℕ) (s : Slot) (r : Bool) → not o ≡ false → j ≡ slot_of h → s ≡ loaded_at w j → r ≡ waits_at (i + 1) x s.state
       → r ≡ server_well n w i x h
   unfolding server_well open_in
-  server-says j s r t ej es er =
+  server_says j s r t ej es er =
       let e : open_in n w h ≡ true = sym eo ∙ not-false o t in
-      let a = and-three (ltb (slot_of h) n) (eqb (handle (cell_at w (slot_of h)).generation (slot_of h)) h) (occupied (state_of (cell_at w (slot_of h)))) e in
-      er ∙ ap (waits_at (i + 1) x) (loaded-state w ej es) ∙ rw (a.0, a.1)
+      let a = and_three (ltb (slot_of h) n) (eqb (handle (cell_at w (slot_of h)).generation (slot_of h)) h) (occupied (state_of (cell_at w (slot_of h)))) e in
+      er ∙ ap (waits_at (i + 1) x) (loaded_state w ej es) ∙ rw (a.0, a.1)
 
 -- ── All entries of a listener ──
 
@@ -86,77 +86,77 @@ abbrev pub entry_well : ℕ → List ℕ → ℕ → Listener → ℕ → Bool
 entry_well n w i l k = server_well n w i (place_of n (l.head + k)) (get_or (queue_in n w i) (place_of n (l.head + k)) 0)
 
 module _ (n : ℕ) (w : List ℕ) (i : ℕ) (l : Listener) (k : ℕ) where
-  pub all-entries : l.pending ≤ k → AllBefore (entry_well n w i l) k → true ≡ tied_state n w i (Listening l)
+  pub all_entries : l.pending ≤ k → AllBefore (entry_well n w i l) k → true ≡ tied_state n w i (Listening l)
   unfolding tied_state
-  all-entries h b = all_done l.pending (entry_well n w i l) k h b
+  all_entries h b = all_done l.pending (entry_well n w i l) k h b
 
-  pub entry-fails : k < l.pending → entry_well n w i l k ≡ false → false ≡ tied_state n w i (Listening l)
+  pub entry_fails : k < l.pending → entry_well n w i l k ≡ false → false ≡ tied_state n w i (Listening l)
   unfolding tied_state
-  entry-fails h e = one-fails l.pending (entry_well n w i l) k h e
+  entry_fails h e = one_fails l.pending (entry_well n w i l) k h e
 
-  pub entry-is : (x h : ℕ) (r : Bool) → x ≡ place_of n (l.head + k) → x < n → h ≡ get_or w (queue_base n i + x) 0 → r ≡ server_well n w i x h → r ≡ entry_well n w i l k
-  entry-is x h r ex hx eh er =
+  pub entry_is : (x h : ℕ) (r : Bool) → x ≡ place_of n (l.head + k) → x < n → h ≡ get_or w (queue_base n i + x) 0 → r ≡ server_well n w i x h → r ≡ entry_well n w i l k
+  entry_is x h r ex hx eh er =
       er
       ∙ ap₂ (server_well n w i) ex (eh ∙ sym (part_at (queue_base n i) n w x hx) ∙ ap (λ (y : ℕ). get_or (queue_in n w i) y 0) ex)
 
 -- ── Where a server stands ──
 
 module _ (n a b : ℕ) where
-  pub ahead-low : a ≤ b → b - a ≡ ahead n a b
+  pub ahead_low : a ≤ b → b - a ≡ ahead n a b
   unfolding ahead
-  ahead-low h = rw (le-leb a b h)
+  ahead_low h = rw (le-leb a b h)
 
-  pub ahead-out : b < a → b + n ≤ a → 0 ≡ ahead n a b
+  pub ahead_out : b < a → b + n ≤ a → 0 ≡ ahead n a b
   unfolding ahead
-  ahead-out h l = rw (lt-leb a b h) (omega arith)
+  ahead_out h l = rw (lt-leb a b h) (omega arith)
 
-  pub ahead-high : b < a → b + n - a ≡ ahead n a b
+  pub ahead_high : b < a → b + n - a ≡ ahead n a b
   unfolding ahead
-  ahead-high h = rw (lt-leb a b h)
+  ahead_high h = rw (lt-leb a b h)
 
 module _ (n x h : ℕ) (w : List ℕ) (l : ℕ) (σ : State) where
-  pub stands-closed : σ ≡ Closed → false ≡ stands_at n x h (queue_in n w l) σ
+  pub stands_closed : σ ≡ Closed → false ≡ stands_at n x h (queue_in n w l) σ
   unfolding stands_at
-  stands-closed e = rw e
+  stands_closed e = rw e
 
-  pub stands-unbound : σ ≡ Unbound → false ≡ stands_at n x h (queue_in n w l) σ
+  pub stands_unbound : σ ≡ Unbound → false ≡ stands_at n x h (queue_in n w l) σ
   unfolding stands_at
-  stands-unbound e = rw e
+  stands_unbound e = rw e
 
-  pub stands-bound : (m : ℕ) → σ ≡ Bound m → false ≡ stands_at n x h (queue_in n w l) σ
+  pub stands_bound : (m : ℕ) → σ ≡ Bound m → false ≡ stands_at n x h (queue_in n w l) σ
   unfolding stands_at
-  stands-bound m e = rw e
+  stands_bound m e = rw e
 
-  pub stands-connected : (k : Connection) → σ ≡ Connected k → false ≡ stands_at n x h (queue_in n w l) σ
+  pub stands_connected : (k : Connection) → σ ≡ Connected k → false ≡ stands_at n x h (queue_in n w l) σ
   unfolding stands_at
-  stands-connected k e = rw e
+  stands_connected k e = rw e
 
   module _ (q : Listener) (eq : σ ≡ Listening q) where
-    pub stands-out : n ≤ x → false ≡ stands_at n x h (queue_in n w l) σ
+    pub stands_out : n ≤ x → false ≡ stands_at n x h (queue_in n w l) σ
     unfolding stands_at
-    stands-out g = rw (eq, le-ltb x n g)
+    stands_out g = rw (eq, le-ltb x n g)
 
-    pub stands-behind : (d : ℕ) → x < n → d ≡ ahead n q.head x → q.pending ≤ d → false ≡ stands_at n x h (queue_in n w l) σ
+    pub stands_behind : (d : ℕ) → x < n → d ≡ ahead n q.head x → q.pending ≤ d → false ≡ stands_at n x h (queue_in n w l) σ
     unfolding stands_at
-    stands-behind d g ed z = rw (eq, lt-ltb x n g, sym ed, le-ltb d q.pending z)
+    stands_behind d g ed z = rw (eq, lt-ltb x n g, sym ed, le-ltb d q.pending z)
 
-    pub stands-there : (d y : ℕ) → x < n → d ≡ ahead n q.head x → d < q.pending → y ≡ get_or w (queue_base n l + x) 0 → eqb y h ≡ stands_at n x h (queue_in n w l) σ
+    pub stands_there : (d y : ℕ) → x < n → d ≡ ahead n q.head x → d < q.pending → y ≡ get_or w (queue_base n l + x) 0 → eqb y h ≡ stands_at n x h (queue_in n w l) σ
     unfolding stands_at
-    stands-there d y g ed z ey = rw (eq, lt-ltb x n g, sym ed, lt-ltb d q.pending z, part_at (queue_base n l) n w x g, sym ey)
+    stands_there d y g ed z ey = rw (eq, lt-ltb x n g, sym ed, lt-ltb d q.pending z, part_at (queue_base n l) n w x g, sym ey)
 
 module _ (n : ℕ) (w : List ℕ) (i : ℕ) (k : Connection) where
   pub given_out : k.waits ≡ 0 → true ≡ tied_state n w i (Connected k)
   unfolding tied_state
   given_out e = rw (eq-eqb k.waits 0 e)
 
-  pub waits-outside : k.waits ≢ 0 → n < k.waits → false ≡ tied_state n w i (Connected k)
+  pub waits_outside : k.waits ≢ 0 → n < k.waits → false ≡ tied_state n w i (Connected k)
   unfolding tied_state
-  waits-outside ne h = rw (ne_eqb k.waits 0 ne, lt-leb k.waits n h)
+  waits_outside ne h = rw (ne_eqb k.waits 0 ne, lt-leb k.waits n h)
 
-  pub stands-so : (me : ℕ) (s : Slot) (r : Bool) → k.waits ≢ 0 → k.waits ≤ n → me ≡ handle (cell_at w i).generation i
+  pub stands_so : (me : ℕ) (s : Slot) (r : Bool) → k.waits ≢ 0 → k.waits ≤ n → me ≡ handle (cell_at w i).generation i
       → s ≡ record { generation = (cell_at w (k.waits - 1)).generation; state = state_of (cell_at w (k.waits - 1)) }
       → r ≡ stands_at n k.place me (queue_in n w (k.waits - 1)) s.state → r ≡ tied_state n w i (Connected k)
   unfolding tied_state
-  stands-so me s r ne h em es er =
+  stands_so me s r ne h em es er =
       er ∙ ap₂ (λ (y : ℕ) (z : State). stands_at n k.place y (queue_in n w (k.waits - 1)) z) em (ap (λ (y : Slot). y.state) es)
       ∙ rw (ne_eqb k.waits 0 ne, le-leb k.waits n h)

@@ -18,13 +18,13 @@ admits n c s wakes releases = admission n c (storage_fits n c s && lists_fit n c
 
 -- the same as propositions: what a call's inner form asks
 pub record Admitted (n c : ℕ) (s : Store) (wakes releases : ℕ) : Type 0 where
-  pub some-slot : 1 ≤ n
+  pub some_slot : 1 ≤ n
   pub few : n ≤ 1024
   pub some_byte : 1 ≤ c
   pub small : c ≤ 65536
   pub words : (sizes_of n c).words ≤ length s.words
   pub bytes : (sizes_of n c).bytes ≤ length s.bytes
   pub tokens : (sizes_of n c).tokens ≤ length s.tokens
-  pub wake-list : (sizes_of n c).wakes ≤ wakes
-  pub release-list : (sizes_of n c).releases ≤ releases
-  pub is-formed : formed n c s ≡ true
+  pub wake_list : (sizes_of n c).wakes ≤ wakes
+  pub release_list : (sizes_of n c).releases ≤ releases
+  pub is_formed : formed n c s ≡ true

@@ -19,29 +19,29 @@ use Rattle.storage.specs.View.{view}
 use Rattle.promise.specs.Answers.{refused_with}
 use Rattle.promise.specs.Promise.{Lists, Done, Filled, outcome, Promise, PromiseFills}
 use Rattle.promise.specs.declared.Answer.{Answer}
-use Rattle.promise.proofs.Known.{refused-done}
-use Rattle.words.proofs.Names.{number-some}
+use Rattle.promise.proofs.Known.{refused_done}
+use Rattle.words.proofs.Names.{number_some}
 use Rattle.unix_socket.specs.Joint.{then_call, send_asks, send_lists, sendmsg_of, recvmsg_of}
 
 -- ── sendmsg ──
 
 module _ (items : List ℤ → List ℕ) (flags : ℤ) (b : List ℕ) (f : List ℤ) (n c : ℕ) (s : Store) (l : Lists) (h : ℕ) (from : List ℕ) where
-  pub flags-first : equals flags 0 ≡ false → sendmsg_of items flags b f n c s l h from ≡ refuse (view n c s) 6
+  pub flags_first : equals flags 0 ≡ false → sendmsg_of items flags b f n c s l h from ≡ refuse (view n c s) 6
   unfolding sendmsg_of send_asks then_call
-  flags-first e = rw e
+  flags_first e = rw e
 
-  pub control-next : (x : Errno) → equals flags 0 ≡ true → meaning b ≡ Control.refused x → sendmsg_of items flags b f n c s l h from ≡ refuse (view n c s) (number_of x)
+  pub control_next : (x : Errno) → equals flags 0 ≡ true → meaning b ≡ Control.refused x → sendmsg_of items flags b f n c s l h from ≡ refuse (view n c s) (number_of x)
   unfolding sendmsg_of send_asks then_call parse_of
-  control-next x e m = rw (e, m)
+  control_next x e m = rw (e, m)
 
-  pub list-next : (ds : List ℤ) → equals flags 0 ≡ true → meaning b ≡ Control.descriptors ds → length f < length ds → sendmsg_of items flags b f n c s l h from ≡ refuse (view n c s) 18
+  pub list_next : (ds : List ℤ) → equals flags 0 ≡ true → meaning b ≡ Control.descriptors ds → length f < length ds → sendmsg_of items flags b f n c s l h from ≡ refuse (view n c s) 18
   unfolding sendmsg_of send_asks then_call parse_of
-  list-next ds e m k = rw (e, m, lt-ltb (length f) (length ds) k)
+  list_next ds e m k = rw (e, m, lt-ltb (length f) (length ds) k)
 
-  pub table-last : (ds : List ℤ) → equals flags 0 ≡ true → meaning b ≡ Control.descriptors ds → length ds ≤ length f
+  pub table_last : (ds : List ℤ) → equals flags 0 ≡ true → meaning b ≡ Control.descriptors ds → length ds ≤ length f
       → sendmsg_of items flags b f n c s l h from ≡ outcome n c s l (Call.Sendmsg h from (items ds))
   unfolding sendmsg_of send_asks send_lists then_call parse_of list_after
-  table-last ds e m k = rw (e, m, le-ltb (length f) (length ds) k) (ap (λ (x : List ℤ). outcome n c s l (Call.Sendmsg h from (items x))) (take-append_seam ds (drop (length ds) f)))
+  table_last ds e m k = rw (e, m, le-ltb (length f) (length ds) k) (ap (λ (x : List ℤ). outcome n c s l (Call.Sendmsg h from (items x))) (take-append_seam ds (drop (length ds) f)))
 
   -- a host that asks `sendmsg_control` first: where it refuses, that is the answer
   module _ (f' : List ℤ) (r : words.Answer) (p : SendParsed flags b f f' r) where
@@ -53,43 +53,43 @@ module _ (items : List ℤ → List ℕ) (flags : ℤ) (b : List ℕ) (f : List 
     unfolding send_lists
     listed = p.list
 
-    pub send-stops : (e : Errno) → r ≡ words.Answer.Refused e → Done (sendmsg_of items flags b f n c s l h from) n c s s l l (refused_with (number_of e))
+    pub send_stops : (e : Errno) → r ≡ words.Answer.Refused e → Done (sendmsg_of items flags b f n c s l h from) n c s s l l (refused_with (number_of e))
     unfolding sendmsg_of then_call
-    send-stops e er = refused-done _ (number_of e) n c s l _ (rw (sym asked ∙ er)) (number-some e) refl
+    send_stops e er = refused_done _ (number_of e) n c s l _ (rw (sym asked ∙ er)) (number_some e) refl
 
     -- and where it answers a number, the table call is the answer
     module _ (k : ℕ) (ek : r ≡ words.Answer.Is k) where
-      send-is : sendmsg_of items flags b f n c s l h from ≡ outcome n c s l (Call.Sendmsg h from (items (take k f')))
+      send_is : sendmsg_of items flags b f n c s l h from ≡ outcome n c s l (Call.Sendmsg h from (items (take k f')))
       unfolding sendmsg_of then_call
-      send-is = rw (sym asked ∙ ek) (ap (λ (x : List ℤ). outcome n c s l (Call.Sendmsg h from (items (take k x)))) (sym listed))
+      send_is = rw (sym asked ∙ ek) (ap (λ (x : List ℤ). outcome n c s l (Call.Sendmsg h from (items (take k x)))) (sym listed))
 
-      pub send-goes : (s' : Store) (l' : Lists) (a : Answer) → Promise (Call.Sendmsg h from (items (take k f'))) n c s s' l l' a → Done (sendmsg_of items flags b f n c s l h from) n c s s' l l' a
-      send-goes s' l' a d = subst (λ (o : Outcome). Done o n c s s' l l' a) (sym send-is) d
+      pub send_goes : (s' : Store) (l' : Lists) (a : Answer) → Promise (Call.Sendmsg h from (items (take k f'))) n c s s' l l' a → Done (sendmsg_of items flags b f n c s l h from) n c s s' l l' a
+      send_goes s' l' a d = subst (λ (o : Outcome). Done o n c s s' l l' a) (sym send_is) d
 
 -- ── recvmsg ──
 
 module _ (flags : ℤ) (m n c : ℕ) (s : Store) (l : Lists) (h size : ℕ) where
-  pub recv-flags-first : equals flags 0 ≡ false → recvmsg_of flags m n c s l h size ≡ refuse (view n c s) 6
+  pub recv_flags_first : equals flags 0 ≡ false → recvmsg_of flags m n c s l h size ≡ refuse (view n c s) 6
   unfolding recvmsg_of recv_capacity_of then_call
-  recv-flags-first e = rw e
+  recv_flags_first e = rw e
 
-  pub recv-table-last : equals flags 0 ≡ true → recvmsg_of flags m n c s l h size ≡ outcome n c s l (Call.Recvmsg h size (capacity_of m))
+  pub recv_table_last : equals flags 0 ≡ true → recvmsg_of flags m n c s l h size ≡ outcome n c s l (Call.Recvmsg h size (capacity_of m))
   unfolding recvmsg_of recv_capacity_of then_call
-  recv-table-last e = rw e
+  recv_table_last e = rw e
 
   -- a host that asks `recvmsg_capacity` first
   module _ (r : words.Answer) (p : r ≡ recv_capacity_of flags m) where
-    pub recv-stops : (e : Errno) → r ≡ words.Answer.Refused e → Done (recvmsg_of flags m n c s l h size) n c s s l l (refused_with (number_of e))
+    pub recv_stops : (e : Errno) → r ≡ words.Answer.Refused e → Done (recvmsg_of flags m n c s l h size) n c s s l l (refused_with (number_of e))
     unfolding recvmsg_of then_call
-    recv-stops e er = refused-done _ (number_of e) n c s l _ (rw (sym p ∙ er)) (number-some e) refl
+    recv_stops e er = refused_done _ (number_of e) n c s l _ (rw (sym p ∙ er)) (number_some e) refl
 
     module _ (k : ℕ) (ek : r ≡ words.Answer.Is k) where
-      recv-is : recvmsg_of flags m n c s l h size ≡ outcome n c s l (Call.Recvmsg h size k)
+      recv_is : recvmsg_of flags m n c s l h size ≡ outcome n c s l (Call.Recvmsg h size k)
       unfolding recvmsg_of then_call
-      recv-is = rw (sym p ∙ ek)
+      recv_is = rw (sym p ∙ ek)
 
-      pub recv-goes : (s' : Store) (l' : Lists) (a : Answer) → Promise (Call.Recvmsg h size k) n c s s' l l' a → Done (recvmsg_of flags m n c s l h size) n c s s' l l' a
-      recv-goes s' l' a d = subst (λ (o : Outcome). Done o n c s s' l l' a) (sym recv-is) d
+      pub recv_goes : (s' : Store) (l' : Lists) (a : Answer) → Promise (Call.Recvmsg h size k) n c s s' l l' a → Done (recvmsg_of flags m n c s l h size) n c s s' l l' a
+      recv_goes s' l' a d = subst (λ (o : Outcome). Done o n c s s' l l' a) (sym recv_is) d
 
-      pub recv-fills : (buf buf' its its' : List ℕ) → PromiseFills (Call.Recvmsg h size k) n c s l buf buf' its its' → Filled (recvmsg_of flags m n c s l h size) buf buf' its its'
-      recv-fills buf buf' its its' d = subst (λ (o : Outcome). Filled o buf buf' its its') (sym recv-is) d
+      pub recv_fills : (buf buf' its its' : List ℕ) → PromiseFills (Call.Recvmsg h size k) n c s l buf buf' its its' → Filled (recvmsg_of flags m n c s l h size) buf buf' its its'
+      recv_fills buf buf' its its' d = subst (λ (o : Outcome). Filled o buf buf' its its') (sym recv_is) d

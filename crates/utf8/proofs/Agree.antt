@@ -9,12 +9,12 @@ use borrow.Author.Tests.{leb-true}
 use lib.Dec.{leb}
 use lib.ListN.{length, length-append}
 use Rattle.laws.specs.All.{All}
-use Rattle.laws.proofs.Tests.{and_left, and_right, less-or}
+use Rattle.laws.proofs.Tests.{and_left, and_right, less_or}
 use Rattle.utf8.specs.Rfc3629.{Utf8, is_scalar, encode, encodes, all_scalar}
 use Rattle.utf8.specs.Syntax.{Range, Row, octets, has, rows, starts, follow, passes, tail, is_utf8}
 use Rattle.utf8.proofs.Passing.{inside}
 use Rattle.utf8.proofs.Rows.{In, ascii, C2-DF, E0, ED, E1-EF, F0, F1-F3, F4}
-use Rattle.utf8.proofs.Encode.{low_scalar, high_scalar, scalar_is, Width, width, encode-1, encode-2, encode-3, encode-4}
+use Rattle.utf8.proofs.Encode.{low_scalar, high_scalar, scalar_is, Width, width, encode_1, encode_2, encode_3, encode_4}
 
 -- ── Every UTF-8 string passes ──
 
@@ -40,8 +40,8 @@ tails : (x : ℕ) → has tail (0x80 + x % 0x40) ≡ true
 tails x = inside 0x80 0xBF (0x80 + x % 0x40) (omega arith) (omega arith)
 
 -- three and four octets: the range of the second goes by the first
-three-octets : (n : ℕ) (s : List ℕ) → 0x800 ≤ n → n < 0x10000 → (n < 0xD800) ⊎ (0xDFFF < n) → passes [] (encode n ++ s) ≡ passes [] s
-three-octets n s h k sc = rw (encode-3 n h k) (⊎_elim at-E0 (λ a. ⊎_elim (λ b. ⊎_elim (at_others a) (at-ED b) (less-or n 0xD000)) (λ b. others (λ e. omega arith) (λ e. omega arith)) sc) (less-or n 0x1000))
+three_octets : (n : ℕ) (s : List ℕ) → 0x800 ≤ n → n < 0x10000 → (n < 0xD800) ⊎ (0xDFFF < n) → passes [] (encode n ++ s) ≡ passes [] s
+three_octets n s h k sc = rw (encode_3 n h k) (⊎_elim at_E0 (λ a. ⊎_elim (λ b. ⊎_elim (at_others a) (at_ED b) (less_or n 0xD000)) (λ b. others (λ e. omega arith) (λ e. omega arith)) sc) (less_or n 0x1000))
   where
     Goal : Type 0
     Goal = passes [] ((0xE0 + n / 0x1000) ∷ (0x80 + n / 0x40 % 0x40) ∷ (0x80 + n % 0x40) ∷ s) ≡ passes [] s
@@ -49,8 +49,8 @@ three-octets n s h k sc = rw (encode-3 n h k) (⊎_elim at-E0 (λ a. ⊎_elim (�
     bs : List ℕ
     bs = (0x80 + n / 0x40 % 0x40) ∷ (0x80 + n % 0x40) ∷ []
 
-    at-E0 : n < 0x1000 → Goal
-    at-E0 l = char _ bs s (E0 (omega arith)) (inside 0xA0 0xBF _ (omega arith) (omega arith), (tails n, tt))
+    at_E0 : n < 0x1000 → Goal
+    at_E0 l = char _ bs s (E0 (omega arith)) (inside 0xA0 0xBF _ (omega arith) (omega arith), (tails n, tt))
 
     others : (0xE0 + n / 0x1000 ≡ 0xE0 → ⊥) → (0xE0 + n / 0x1000 ≡ 0xED → ⊥) → Goal
     others a b = char _ bs s (E1-EF _ (omega arith) a b (omega arith)) (tails (n / 0x40), (tails n, tt))
@@ -58,11 +58,11 @@ three-octets n s h k sc = rw (encode-3 n h k) (⊎_elim at-E0 (λ a. ⊎_elim (�
     at_others : 0x1000 ≤ n → n < 0xD000 → Goal
     at_others a b = others (λ e. omega arith) (λ e. omega arith)
 
-    at-ED : n < 0xD800 → 0xD000 ≤ n → Goal
-    at-ED a b = char _ bs s (ED (omega arith)) (inside 0x80 0x9F _ (omega arith) (omega arith), (tails n, tt))
+    at_ED : n < 0xD800 → 0xD000 ≤ n → Goal
+    at_ED a b = char _ bs s (ED (omega arith)) (inside 0x80 0x9F _ (omega arith) (omega arith), (tails n, tt))
 
-four-octets : (n : ℕ) (s : List ℕ) → 0x10000 ≤ n → n < 0x110000 → passes [] (encode n ++ s) ≡ passes [] s
-four-octets n s h k = rw (encode-4 n h) (⊎_elim at-F0 (λ a. ⊎_elim (at_others a) at-F4 (less-or n 0x100000)) (less-or n 0x40000))
+four_octets : (n : ℕ) (s : List ℕ) → 0x10000 ≤ n → n < 0x110000 → passes [] (encode n ++ s) ≡ passes [] s
+four_octets n s h k = rw (encode_4 n h) (⊎_elim at_F0 (λ a. ⊎_elim (at_others a) at_F4 (less_or n 0x100000)) (less_or n 0x40000))
   where
     Goal : Type 0
     Goal = passes [] ((0xF0 + n / 0x40000) ∷ (0x80 + n / 0x1000 % 0x40) ∷ (0x80 + n / 0x40 % 0x40) ∷ (0x80 + n % 0x40) ∷ s) ≡ passes [] s
@@ -70,32 +70,32 @@ four-octets n s h k = rw (encode-4 n h) (⊎_elim at-F0 (λ a. ⊎_elim (at_othe
     bs : List ℕ
     bs = (0x80 + n / 0x1000 % 0x40) ∷ (0x80 + n / 0x40 % 0x40) ∷ (0x80 + n % 0x40) ∷ []
 
-    at-F0 : n < 0x40000 → Goal
-    at-F0 l = char _ bs s (F0 (omega arith)) (inside 0x90 0xBF _ (omega arith) (omega arith), (tails (n / 0x40), (tails n, tt)))
+    at_F0 : n < 0x40000 → Goal
+    at_F0 l = char _ bs s (F0 (omega arith)) (inside 0x90 0xBF _ (omega arith) (omega arith), (tails (n / 0x40), (tails n, tt)))
 
     at_others : 0x40000 ≤ n → n < 0x100000 → Goal
     at_others a b = char _ bs s (F1-F3 _ (omega arith) (omega arith)) (tails (n / 0x1000), (tails (n / 0x40), (tails n, tt)))
 
-    at-F4 : 0x100000 ≤ n → Goal
-    at-F4 a = char _ bs s (F4 (omega arith)) (inside 0x80 0x8F _ (omega arith) (omega arith), (tails (n / 0x40), (tails n, tt)))
+    at_F4 : 0x100000 ≤ n → Goal
+    at_F4 a = char _ bs s (F4 (omega arith)) (inside 0x80 0x8F _ (omega arith) (omega arith), (tails (n / 0x40), (tails n, tt)))
 
 encoded : (n : ℕ) (s : List ℕ) → is_scalar n ≡ true → passes [] (encode n ++ s) ≡ passes [] s
 encoded n s e = go (width n)
   where
     go : Width n → passes [] (encode n ++ s) ≡ passes [] s
-    go (Width.one h) = rw (encode-1 n h) (char n [] s (ascii n h) tt)
-    go (Width.two h k) = rw (encode-2 n h k) (char _ ((0x80 + n % 0x40) ∷ []) s (C2-DF _ (omega arith) (omega arith)) (tails n, tt))
-    go (Width.three h k) = three-octets n s h k (⊎_elim inl (λ c. inr c.0) (scalar_is n e))
-    go (Width.four h) = four-octets n s h (⊎_elim (λ c. omega arith) (λ c. c.1) (scalar_is n e))
+    go (Width.one h) = rw (encode_1 n h) (char n [] s (ascii n h) tt)
+    go (Width.two h k) = rw (encode_2 n h k) (char _ ((0x80 + n % 0x40) ∷ []) s (C2-DF _ (omega arith) (omega arith)) (tails n, tt))
+    go (Width.three h k) = three_octets n s h k (⊎_elim inl (λ c. inr c.0) (scalar_is n e))
+    go (Width.four h) = four_octets n s h (⊎_elim (λ c. omega arith) (λ c. c.1) (scalar_is n e))
 
-encodes-pass : (ns : List ℕ) → all_scalar ns ≡ true → passes [] (encodes ns) ≡ true
+encodes_pass : (ns : List ℕ) → all_scalar ns ≡ true → passes [] (encodes ns) ≡ true
 unfolding encodes all_scalar passes
-encodes-pass [] e = refl
-encodes-pass (n ∷ ns) e = encoded n (encodes ns) (and_left _ _ e) ∙ encodes-pass ns (and_right (is_scalar n) _ e)
+encodes_pass [] e = refl
+encodes_pass (n ∷ ns) e = encoded n (encodes ns) (and_left _ _ e) ∙ encodes_pass ns (and_right (is_scalar n) _ e)
 
 pub complete : (s : List ℕ) → Utf8 s → is_utf8 s ≡ true
 unfolding is_utf8
-complete s u = rw (← u.is) (encodes-pass u.scalars u.each)
+complete s u = rw (← u.is) (encodes_pass u.scalars u.each)
 
 -- ── Whatever passes is UTF-8 ──
 
@@ -131,34 +131,34 @@ two b c p q =
     let n : ℕ = (b - 0xC0) * 0x40 + (c - 0x80) in
     let e : 0xC0 + n / 0x40 ≡ b = omega arith in
     let f : 0x80 + n % 0x40 ≡ c = omega arith in
-    record { scalar = n; fine = low_scalar n (omega arith); is = encode-2 n (omega arith) (omega arith) ∙ rw (e, f) }
+    record { scalar = n; fine = low_scalar n (omega arith); is = encode_2 n (omega arith) (omega arith) ∙ rw (e, f) }
 
 module _ (b c d : ℕ) (p : (0xE0 ≤ b) × (b ≤ 0xEF)) (q : (0x80 ≤ c) × (c ≤ 0xBF)) (r : (0x80 ≤ d) × (d ≤ 0xBF)) where
-  value-3 : ℕ
-  value-3 = (b - 0xE0) * 0x1000 + (c - 0x80) * 0x40 + (d - 0x80)
+  value_3 : ℕ
+  value_3 = (b - 0xE0) * 0x1000 + (c - 0x80) * 0x40 + (d - 0x80)
 
-  three : 0x800 ≤ value-3 → (value-3 < 0xD800) ⊎ (0xDFFF < value-3) → Value (b ∷ c ∷ d ∷ [])
-  unfolding value-3
+  three : 0x800 ≤ value_3 → (value_3 < 0xD800) ⊎ (0xDFFF < value_3) → Value (b ∷ c ∷ d ∷ [])
+  unfolding value_3
   three h s =
       let n : ℕ = (b - 0xE0) * 0x1000 + (c - 0x80) * 0x40 + (d - 0x80) in
       let e : 0xE0 + n / 0x1000 ≡ b = omega arith in
       let f : 0x80 + n / 0x40 % 0x40 ≡ c = omega arith in
       let g : 0x80 + n % 0x40 ≡ d = omega arith in
-      record { scalar = n; fine = ⊎_elim (low_scalar n) (λ m. high_scalar n m (omega arith)) s; is = encode-3 n h (omega arith) ∙ rw (e, f, g) }
+      record { scalar = n; fine = ⊎_elim (low_scalar n) (λ m. high_scalar n m (omega arith)) s; is = encode_3 n h (omega arith) ∙ rw (e, f, g) }
 
 module _ (b c d e : ℕ) (p : (0xF0 ≤ b) × (b ≤ 0xF4)) (q : (0x80 ≤ c) × (c ≤ 0xBF)) (r : (0x80 ≤ d) × (d ≤ 0xBF)) (s : (0x80 ≤ e) × (e ≤ 0xBF)) where
-  value-4 : ℕ
-  value-4 = (b - 0xF0) * 0x40000 + (c - 0x80) * 0x1000 + (d - 0x80) * 0x40 + (e - 0x80)
+  value_4 : ℕ
+  value_4 = (b - 0xF0) * 0x40000 + (c - 0x80) * 0x1000 + (d - 0x80) * 0x40 + (e - 0x80)
 
-  four : 0x10000 ≤ value-4 → value-4 < 0x110000 → Value (b ∷ c ∷ d ∷ e ∷ [])
-  unfolding value-4
+  four : 0x10000 ≤ value_4 → value_4 < 0x110000 → Value (b ∷ c ∷ d ∷ e ∷ [])
+  unfolding value_4
   four h k =
       let n : ℕ = (b - 0xF0) * 0x40000 + (c - 0x80) * 0x1000 + (d - 0x80) * 0x40 + (e - 0x80) in
       let f : 0xF0 + n / 0x40000 ≡ b = omega arith in
       let g : 0x80 + n / 0x1000 % 0x40 ≡ c = omega arith in
       let i : 0x80 + n / 0x40 % 0x40 ≡ d = omega arith in
       let j : 0x80 + n % 0x40 ≡ e = omega arith in
-      record { scalar = n; fine = high_scalar n (omega arith) k; is = encode-4 n h ∙ rw (f, g, i, j) }
+      record { scalar = n; fine = high_scalar n (omega arith) k; is = encode_4 n h ∙ rw (f, g, i, j) }
 
 -- what holds of each row that has b holds of the row that b is in
 which : (P : List Range → Type 0) (b : ℕ) (rs : List Row) → All (λ r. has r.first b ≡ true → P r.rest) rs → starts rs b ≡ true → P (follow rs b)
@@ -175,50 +175,50 @@ module _ (b : ℕ) where
   abbrev Reads : List Range → Type 0
   Reads rs = (bs : List ℕ) → Match rs bs → Value (b ∷ bs)
 
-  reads-1 : has (octets 0x00 0x7F) b ≡ true → Reads []
-  reads-1 h [] m = let p = told 0x00 0x7F b h in record { scalar = b; fine = low_scalar b (omega arith); is = encode-1 b (omega arith) }
-  reads-1 h (c ∷ bs) m = absurd m
+  reads_1 : has (octets 0x00 0x7F) b ≡ true → Reads []
+  reads_1 h [] m = let p = told 0x00 0x7F b h in record { scalar = b; fine = low_scalar b (omega arith); is = encode_1 b (omega arith) }
+  reads_1 h (c ∷ bs) m = absurd m
 
-  reads-2 : has (octets 0xC2 0xDF) b ≡ true → Reads (tail ∷ [])
-  reads-2 h [] m = absurd m
-  reads-2 h (c ∷ []) m = two b c (told 0xC2 0xDF b h) (told 0x80 0xBF c m.0)
-  reads-2 h (c ∷ d ∷ bs) m = absurd m.1
+  reads_2 : has (octets 0xC2 0xDF) b ≡ true → Reads (tail ∷ [])
+  reads_2 h [] m = absurd m
+  reads_2 h (c ∷ []) m = two b c (told 0xC2 0xDF b h) (told 0x80 0xBF c m.0)
+  reads_2 h (c ∷ d ∷ bs) m = absurd m.1
 
   -- three and four octets: where the second lies goes by the first
-  reads-3 : (x y l z : ℕ) → has (octets x y) b ≡ true
+  reads_3 : (x y l z : ℕ) → has (octets x y) b ≡ true
       → ((c d : ℕ) → (x ≤ b) × (b ≤ y) → (l ≤ c) × (c ≤ z) → (0x80 ≤ d) × (d ≤ 0xBF) → Value (b ∷ c ∷ d ∷ [])) → Reads (octets l z ∷ tail ∷ [])
-  reads-3 x y l z h k [] m = absurd m
-  reads-3 x y l z h k (c ∷ []) m = absurd m.1
-  reads-3 x y l z h k (c ∷ d ∷ []) m = k c d (told x y b h) (told l z c m.0) (told 0x80 0xBF d m.1.0)
-  reads-3 x y l z h k (c ∷ d ∷ g ∷ bs) m = absurd m.1.1
+  reads_3 x y l z h k [] m = absurd m
+  reads_3 x y l z h k (c ∷ []) m = absurd m.1
+  reads_3 x y l z h k (c ∷ d ∷ []) m = k c d (told x y b h) (told l z c m.0) (told 0x80 0xBF d m.1.0)
+  reads_3 x y l z h k (c ∷ d ∷ g ∷ bs) m = absurd m.1.1
 
-  reads-4 : (x y l z : ℕ) → has (octets x y) b ≡ true
+  reads_4 : (x y l z : ℕ) → has (octets x y) b ≡ true
       → ((c d e : ℕ) → (x ≤ b) × (b ≤ y) → (l ≤ c) × (c ≤ z) → (0x80 ≤ d) × (d ≤ 0xBF) → (0x80 ≤ e) × (e ≤ 0xBF) → Value (b ∷ c ∷ d ∷ e ∷ [])) → Reads (octets l z ∷ tail ∷ tail ∷ [])
-  reads-4 x y l z h k [] m = absurd m
-  reads-4 x y l z h k (c ∷ []) m = absurd m.1
-  reads-4 x y l z h k (c ∷ d ∷ []) m = absurd m.1.1
-  reads-4 x y l z h k (c ∷ d ∷ e ∷ []) m = k c d e (told x y b h) (told l z c m.0) (told 0x80 0xBF d m.1.0) (told 0x80 0xBF e m.1.1.0)
-  reads-4 x y l z h k (c ∷ d ∷ e ∷ g ∷ bs) m = absurd m.1.1.1
+  reads_4 x y l z h k [] m = absurd m
+  reads_4 x y l z h k (c ∷ []) m = absurd m.1
+  reads_4 x y l z h k (c ∷ d ∷ []) m = absurd m.1.1
+  reads_4 x y l z h k (c ∷ d ∷ e ∷ []) m = k c d e (told x y b h) (told l z c m.0) (told 0x80 0xBF d m.1.0) (told 0x80 0xBF e m.1.1.0)
+  reads_4 x y l z h k (c ∷ d ∷ e ∷ g ∷ bs) m = absurd m.1.1.1
 
   each_row : All (λ r. has r.first b ≡ true → Reads r.rest) rows
-  unfolding value-3 value-4
+  unfolding value_3 value_4
   each_row = (
-    reads-1,
+    reads_1,
     (
-      reads-2,
+      reads_2,
       (
-        λ h. reads-3 0xE0 0xE0 0xA0 0xBF h (λ c d p q r. three b c d (omega arith) (omega arith) r (omega arith) (inl (omega arith))),
+        λ h. reads_3 0xE0 0xE0 0xA0 0xBF h (λ c d p q r. three b c d (omega arith) (omega arith) r (omega arith) (inl (omega arith))),
         (
-          λ h. reads-3 0xE1 0xEC 0x80 0xBF h (λ c d p q r. three b c d (omega arith) q r (omega arith) (inl (omega arith))),
+          λ h. reads_3 0xE1 0xEC 0x80 0xBF h (λ c d p q r. three b c d (omega arith) q r (omega arith) (inl (omega arith))),
           (
-            λ h. reads-3 0xED 0xED 0x80 0x9F h (λ c d p q r. three b c d (omega arith) (omega arith) r (omega arith) (inl (omega arith))),
+            λ h. reads_3 0xED 0xED 0x80 0x9F h (λ c d p q r. three b c d (omega arith) (omega arith) r (omega arith) (inl (omega arith))),
             (
-              λ h. reads-3 0xEE 0xEF 0x80 0xBF h (λ c d p q r. three b c d (omega arith) q r (omega arith) (inr (omega arith))),
+              λ h. reads_3 0xEE 0xEF 0x80 0xBF h (λ c d p q r. three b c d (omega arith) q r (omega arith) (inr (omega arith))),
               (
-                λ h. reads-4 0xF0 0xF0 0x90 0xBF h (λ c d e p q r s. four b c d e (omega arith) (omega arith) r s (omega arith) (omega arith)),
+                λ h. reads_4 0xF0 0xF0 0x90 0xBF h (λ c d e p q r s. four b c d e (omega arith) (omega arith) r s (omega arith) (omega arith)),
                 (
-                  λ h. reads-4 0xF1 0xF3 0x80 0xBF h (λ c d e p q r s. four b c d e (omega arith) q r s (omega arith) (omega arith)),
-                  (λ h. reads-4 0xF4 0xF4 0x80 0x8F h (λ c d e p q r s. four b c d e (omega arith) (omega arith) r s (omega arith) (omega arith)), tt),
+                  λ h. reads_4 0xF1 0xF3 0x80 0xBF h (λ c d e p q r s. four b c d e (omega arith) q r s (omega arith) (omega arith)),
+                  (λ h. reads_4 0xF4 0xF4 0x80 0x8F h (λ c d e p q r s. four b c d e (omega arith) (omega arith) r s (omega arith) (omega arith)), tt),
                 ),
               ),
             ),

@@ -7,7 +7,7 @@ use Prim.Native.Nat.{ℕ, ◌+◌, ◌/◌, ◌%◌, ◌<◌, ◌≤◌}
 use native.Mathlib.Omega.{arith}
 use borrow.Author.Tests.{lt-ltb, le-ltb, ltb-true}
 use lib.Dec.{ltb}
-use Rattle.laws.proofs.Tests.{and_left, and_right, less-or}
+use Rattle.laws.proofs.Tests.{and_left, and_right, less_or}
 use Rattle.utf8.specs.Rfc3629.{is_scalar, encode}
 
 -- the two halves of the scalar values
@@ -30,21 +30,21 @@ scalar_is n e = go (ltb n 0xD800) refl e
 -- ── The four widths ──
 
 module _ (n : ℕ) where
-  pub encode-1 : n < 0x80 → encode n ≡ n ∷ []
+  pub encode_1 : n < 0x80 → encode n ≡ n ∷ []
   unfolding encode
-  encode-1 h = rw (lt-ltb n 0x80 h)
+  encode_1 h = rw (lt-ltb n 0x80 h)
 
-  pub encode-2 : 0x80 ≤ n → n < 0x800 → encode n ≡ (0xC0 + n / 0x40) ∷ (0x80 + n % 0x40) ∷ []
+  pub encode_2 : 0x80 ≤ n → n < 0x800 → encode n ≡ (0xC0 + n / 0x40) ∷ (0x80 + n % 0x40) ∷ []
   unfolding encode
-  encode-2 h k = rw (le-ltb n 0x80 h, lt-ltb n 0x800 k)
+  encode_2 h k = rw (le-ltb n 0x80 h, lt-ltb n 0x800 k)
 
-  pub encode-3 : 0x800 ≤ n → n < 0x10000 → encode n ≡ (0xE0 + n / 0x1000) ∷ (0x80 + n / 0x40 % 0x40) ∷ (0x80 + n % 0x40) ∷ []
+  pub encode_3 : 0x800 ≤ n → n < 0x10000 → encode n ≡ (0xE0 + n / 0x1000) ∷ (0x80 + n / 0x40 % 0x40) ∷ (0x80 + n % 0x40) ∷ []
   unfolding encode
-  encode-3 h k = rw (le-ltb n 0x80 (omega arith), le-ltb n 0x800 h, lt-ltb n 0x10000 k)
+  encode_3 h k = rw (le-ltb n 0x80 (omega arith), le-ltb n 0x800 h, lt-ltb n 0x10000 k)
 
-  pub encode-4 : 0x10000 ≤ n → encode n ≡ (0xF0 + n / 0x40000) ∷ (0x80 + n / 0x1000 % 0x40) ∷ (0x80 + n / 0x40 % 0x40) ∷ (0x80 + n % 0x40) ∷ []
+  pub encode_4 : 0x10000 ≤ n → encode n ≡ (0xF0 + n / 0x40000) ∷ (0x80 + n / 0x1000 % 0x40) ∷ (0x80 + n / 0x40 % 0x40) ∷ (0x80 + n % 0x40) ∷ []
   unfolding encode
-  encode-4 h = rw (le-ltb n 0x80 (omega arith), le-ltb n 0x800 (omega arith), le-ltb n 0x10000 h)
+  encode_4 h = rw (le-ltb n 0x80 (omega arith), le-ltb n 0x800 (omega arith), le-ltb n 0x10000 h)
 
 -- which of them a number has
 pub data Width (n : ℕ) : Type 0 where
@@ -55,4 +55,4 @@ pub data Width (n : ℕ) : Type 0 where
 
 pub width : (n : ℕ) → Width n
 width n =
-    ⊎_elim one (λ a. ⊎_elim (two a) (λ b. ⊎_elim (three b) four (less-or n 0x10000)) (less-or n 0x800)) (less-or n 0x80)
+    ⊎_elim one (λ a. ⊎_elim (two a) (λ b. ⊎_elim (three b) four (less_or n 0x10000)) (less_or n 0x800)) (less_or n 0x80)

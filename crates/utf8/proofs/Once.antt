@@ -11,7 +11,7 @@ use lib.Dec.{ltb}
 use lib.ListN.{drop, get_or}
 use Rattle.laws.proofs.Tests.{and_left, and_right}
 use Rattle.utf8.specs.Rfc3629.{is_scalar, encode, encodes, all_scalar}
-use Rattle.utf8.proofs.Encode.{scalar_is, Width, width, encode-1, encode-2, encode-3, encode-4}
+use Rattle.utf8.proofs.Encode.{scalar_is, Width, width, encode_1, encode_2, encode_3, encode_4}
 
 -- one case for each width, by the first octet
 pick : {X : Type 0} → ℕ → X → X → X → X → X
@@ -29,21 +29,21 @@ first s =
 rest : List ℕ → List ℕ
 rest s = pick (get_or s 0 0) (drop 1 s) (drop 2 s) (drop 3 s) (drop 4 s)
 
-pick-1 : {X : Type 0} (b : ℕ) (w x y z : X) → b < 0x80 → pick b w x y z ≡ w
+pick_1 : {X : Type 0} (b : ℕ) (w x y z : X) → b < 0x80 → pick b w x y z ≡ w
 unfolding pick
-pick-1 b w x y z h = rw (lt-ltb b 0x80 h)
+pick_1 b w x y z h = rw (lt-ltb b 0x80 h)
 
-pick-2 : {X : Type 0} (b : ℕ) (w x y z : X) → 0x80 ≤ b → b < 0xE0 → pick b w x y z ≡ x
+pick_2 : {X : Type 0} (b : ℕ) (w x y z : X) → 0x80 ≤ b → b < 0xE0 → pick b w x y z ≡ x
 unfolding pick
-pick-2 b w x y z h k = rw (le-ltb b 0x80 h, lt-ltb b 0xE0 k)
+pick_2 b w x y z h k = rw (le-ltb b 0x80 h, lt-ltb b 0xE0 k)
 
-pick-3 : {X : Type 0} (b : ℕ) (w x y z : X) → 0xE0 ≤ b → b < 0xF0 → pick b w x y z ≡ y
+pick_3 : {X : Type 0} (b : ℕ) (w x y z : X) → 0xE0 ≤ b → b < 0xF0 → pick b w x y z ≡ y
 unfolding pick
-pick-3 b w x y z h k = rw (le-ltb b 0x80 (omega arith), le-ltb b 0xE0 h, lt-ltb b 0xF0 k)
+pick_3 b w x y z h k = rw (le-ltb b 0x80 (omega arith), le-ltb b 0xE0 h, lt-ltb b 0xF0 k)
 
-pick-4 : {X : Type 0} (b : ℕ) (w x y z : X) → 0xF0 ≤ b → pick b w x y z ≡ z
+pick_4 : {X : Type 0} (b : ℕ) (w x y z : X) → 0xF0 ≤ b → pick b w x y z ≡ z
 unfolding pick
-pick-4 b w x y z h = rw (le-ltb b 0x80 (omega arith), le-ltb b 0xE0 (omega arith), le-ltb b 0xF0 h)
+pick_4 b w x y z h = rw (le-ltb b 0x80 (omega arith), le-ltb b 0xE0 (omega arith), le-ltb b 0xF0 h)
 
 -- the digits of a number to the base 64, the fourth and above as one
 digits : (n : ℕ) → n / 0x40000 * 0x40000 + n / 0x1000 % 0x40 * 0x1000 + n / 0x40 % 0x40 * 0x40 + n % 0x40 ≡ n
@@ -58,10 +58,10 @@ unfolding first rest
 begins n top s = go (width n)
   where
     go : Width n → (first (encode n ++ s) ≡ n) × (rest (encode n ++ s) ≡ s)
-    go (Width.one h) = rw (encode-1 n h) (pick-1 n _ _ _ _ h, pick-1 n _ _ _ _ h)
-    go (Width.two h k) = rw (encode-2 n h k) (pick-2 _ _ _ _ _ (omega arith) (omega arith) ∙ omega arith, pick-2 _ _ _ _ _ (omega arith) (omega arith))
-    go (Width.three h k) = rw (encode-3 n h k) (pick-3 _ _ _ _ _ (omega arith) (omega arith) ∙ omega arith, pick-3 _ _ _ _ _ (omega arith) (omega arith))
-    go (Width.four h) = let d = digits n in rw (encode-4 n h) (pick-4 _ _ _ _ _ (omega arith) ∙ omega arith, pick-4 _ _ _ _ _ (omega arith))
+    go (Width.one h) = rw (encode_1 n h) (pick_1 n _ _ _ _ h, pick_1 n _ _ _ _ h)
+    go (Width.two h k) = rw (encode_2 n h k) (pick_2 _ _ _ _ _ (omega arith) (omega arith) ∙ omega arith, pick_2 _ _ _ _ _ (omega arith) (omega arith))
+    go (Width.three h k) = rw (encode_3 n h k) (pick_3 _ _ _ _ _ (omega arith) (omega arith) ∙ omega arith, pick_3 _ _ _ _ _ (omega arith) (omega arith))
+    go (Width.four h) = let d = digits n in rw (encode_4 n h) (pick_4 _ _ _ _ _ (omega arith) ∙ omega arith, pick_4 _ _ _ _ _ (omega arith))
 
 below : (n : ℕ) → is_scalar n ≡ true → n < 0x110000
 below n e = ⊎_elim (λ h. omega arith) (λ h. omega arith) (scalar_is n e)
@@ -71,10 +71,10 @@ some : (n : ℕ) (s : List ℕ) → (encode n ++ s ≡ []) → ⊥
 some n s p = go (width n)
   where
     go : Width n → ⊥
-    go (Width.one h) = let z : ◌≡◌ {A = ℕ} 0 1 = cc (encode-1 n h) in omega arith
-    go (Width.two h k) = let z : ◌≡◌ {A = ℕ} 0 1 = cc (encode-2 n h k) in omega arith
-    go (Width.three h k) = let z : ◌≡◌ {A = ℕ} 0 1 = cc (encode-3 n h k) in omega arith
-    go (Width.four h) = let z : ◌≡◌ {A = ℕ} 0 1 = cc (encode-4 n h) in omega arith
+    go (Width.one h) = let z : ◌≡◌ {A = ℕ} 0 1 = cc (encode_1 n h) in omega arith
+    go (Width.two h k) = let z : ◌≡◌ {A = ℕ} 0 1 = cc (encode_2 n h k) in omega arith
+    go (Width.three h k) = let z : ◌≡◌ {A = ℕ} 0 1 = cc (encode_3 n h k) in omega arith
+    go (Width.four h) = let z : ◌≡◌ {A = ℕ} 0 1 = cc (encode_4 n h) in omega arith
 
 pub once : (ns ms : List ℕ) → all_scalar ns ≡ true → all_scalar ms ≡ true → encodes ns ≡ encodes ms → ns ≡ ms
 unfolding encodes all_scalar

@@ -61,11 +61,11 @@ module _ (s : List ℕ) (at n low high : ℕ) (pre : (at < length s) × (2 ≤ n
     second : passes (due n low high) (drop (at + 1) s) ≡ has (octets low high) (get_or s (at + 1) 0) && passes (replicate (n - 2) tail) (drop (at + 1 + 1) s)
     second = next (octets low high) (replicate (n - 2) tail) s (at + 1) (omega arith)
 
-    pub too-low : get_or s (at + 1) 0 < low → Tails s at n low high 0
-    too-low h = none s at n low high pre.0 (second ∙ ap (λ (b : Bool). b && passes (replicate (n - 2) tail) (drop (at + 1 + 1) s)) (under low high (get_or s (at + 1) 0) h))
+    pub too_low : get_or s (at + 1) 0 < low → Tails s at n low high 0
+    too_low h = none s at n low high pre.0 (second ∙ ap (λ (b : Bool). b && passes (replicate (n - 2) tail) (drop (at + 1 + 1) s)) (under low high (get_or s (at + 1) 0) h))
 
-    pub too-high : high < get_or s (at + 1) 0 → Tails s at n low high 0
-    too-high h = none s at n low high pre.0 (second ∙ ap (λ (b : Bool). b && passes (replicate (n - 2) tail) (drop (at + 1 + 1) s)) (over low high (get_or s (at + 1) 0) h))
+    pub too_high : high < get_or s (at + 1) 0 → Tails s at n low high 0
+    too_high h = none s at n low high pre.0 (second ∙ ap (λ (b : Bool). b && passes (replicate (n - 2) tail) (drop (at + 1 + 1) s)) (over low high (get_or s (at + 1) 0) h))
 
     -- where the loop begins: the second octet is right
     pub begun : low ≤ get_or s (at + 1) 0 → get_or s (at + 1) 0 ≤ high → passes (due n low high) (drop (at + 1) s) ≡ passes (replicate (n - 2) tail) (drop (at + 2) s)
@@ -82,11 +82,11 @@ module _ (s : List ℕ) (at n low high : ℕ) (pre : (at < length s) × (2 ≤ n
           let f : at + (i + 1) ≡ at + i + 1 = omega arith in
           rw (e, f) (next tail (replicate (n - (i + 1)) tail) s (at + i) (omega arith))
 
-      pub tail-low : get_or s (at + i) 0 < 0x80 → Tails s at n low high 0
-      tail-low h = none s at n low high pre.0 (so ∙ one ∙ ap (λ (b : Bool). b && passes (replicate (n - (i + 1)) tail) (drop (at + (i + 1)) s)) (under 0x80 0xBF (get_or s (at + i) 0) h))
+      pub tail_low : get_or s (at + i) 0 < 0x80 → Tails s at n low high 0
+      tail_low h = none s at n low high pre.0 (so ∙ one ∙ ap (λ (b : Bool). b && passes (replicate (n - (i + 1)) tail) (drop (at + (i + 1)) s)) (under 0x80 0xBF (get_or s (at + i) 0) h))
 
-      pub tail-high : 0xBF < get_or s (at + i) 0 → Tails s at n low high 0
-      tail-high h = none s at n low high pre.0 (so ∙ one ∙ ap (λ (b : Bool). b && passes (replicate (n - (i + 1)) tail) (drop (at + (i + 1)) s)) (over 0x80 0xBF (get_or s (at + i) 0) h))
+      pub tail_high : 0xBF < get_or s (at + i) 0 → Tails s at n low high 0
+      tail_high h = none s at n low high pre.0 (so ∙ one ∙ ap (λ (b : Bool). b && passes (replicate (n - (i + 1)) tail) (drop (at + (i + 1)) s)) (over 0x80 0xBF (get_or s (at + i) 0) h))
 
       pub on : 0x80 ≤ get_or s (at + i) 0 → get_or s (at + i) 0 ≤ 0xBF → passes (due n low high) (drop (at + 1) s) ≡ passes (replicate (n - (i + 1)) tail) (drop (at + (i + 1)) s)
       on h k = so ∙ one ∙ ap (λ (b : Bool). b && passes (replicate (n - (i + 1)) tail) (drop (at + (i + 1)) s)) (inside 0x80 0xBF (get_or s (at + i) 0) h k)

@@ -7,7 +7,7 @@ use Prim.Native.Nat.{ℕ, ◌+◌, ◌-◌, ◌<◌, ◌≤◌}
 use native.Mathlib.Omega.{arith}
 use lib.ListN.{length, get_or, drop, replicate, drop_of_length-le}
 use borrow.Author.Tests.{eq-eqb, ne_eqb}
-use Rattle.laws.proofs.Tests.{less-or}
+use Rattle.laws.proofs.Tests.{less_or}
 use Rattle.utf8.specs.Syntax.{Range, octets, has, rows, starts, follow, passes, tail, is_utf8}
 use Rattle.utf8.specs.Steps.{Step, Tails}
 use Rattle.utf8.proofs.Passing.{inside, under, over, first}
@@ -50,7 +50,7 @@ module _ (b : ℕ) where
       record { begins = rw (a, d, e, f, g, z); then = rw (a, d, e, f, g, z) }
 
   pub E1-EF : 0xE0 ≤ b → (b ≡ 0xE0 → ⊥) → (b ≡ 0xED → ⊥) → b < 0xF0 → In b (tail ∷ tail ∷ [])
-  E1-EF h n m k = ⊎_elim (λ l. E1-EC (omega arith) l) (λ g. EE-EF (omega arith) k) (less-or b 0xED)
+  E1-EF h n m k = ⊎_elim (λ l. E1-EC (omega arith) l) (λ g. EE-EF (omega arith) k) (less_or b 0xED)
 
   pub F1-F3 : 0xF0 < b → b < 0xF4 → In b (tail ∷ tail ∷ tail ∷ [])
   unfolding starts follow

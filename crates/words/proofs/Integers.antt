@@ -9,12 +9,12 @@ use mir.Syntax.{w32}
 use mir.Val.{of_z, SFits}
 use Rattle.words.specs.Integers.{equals}
 
-pub equals-yes : (z : ℤ) (k : ℕ) → SFits w32 z → k < 2 ^ 31 → of_z w32 z ≡ k → equals z k ≡ true
+pub equals_yes : (z : ℤ) (k : ℕ) → SFits w32 z → k < 2 ^ 31 → of_z w32 z ≡ k → equals z k ≡ true
 unfolding equals
-equals-yes (pos n) k s h e = eq-eqb n k e
-equals-yes (negsuc n) k s h e = absurd (let l : n < 2 ^ 31 = s.sfits in omega arith)
+equals_yes (pos n) k s h e = eq-eqb n k e
+equals_yes (negsuc n) k s h e = absurd (let l : n < 2 ^ 31 = s.sfits in omega arith)
 
-pub equals-no : (z : ℤ) (k : ℕ) → (of_z w32 z ≡ k → ⊥) → equals z k ≡ false
+pub equals_no : (z : ℤ) (k : ℕ) → (of_z w32 z ≡ k → ⊥) → equals z k ≡ false
 unfolding equals
-equals-no (pos n) k e = ne_eqb n k e
-equals-no (negsuc n) k e = refl
+equals_no (pos n) k e = ne_eqb n k e
+equals_no (negsuc n) k e = refl

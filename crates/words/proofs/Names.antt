@@ -39,6 +39,6 @@ named DAMAGED = refl
 pub one_name : (a b : Errno) → number_of a ≡ number_of b → a ≡ b
 one_name a b e = sym (named a) ∙ ap name e ∙ named b
 
-pub number-some : (e : Errno) → number_of e ≢ 0
+pub number_some : (e : Errno) → number_of e ≢ 0
 unfolding name
-number-some e z = let d : e ≡ DAMAGED = sym (named e) ∙ ap name z in let y = sym (ap number_of d) ∙ z in omega arith
+number_some e z = let d : e ≡ DAMAGED = sym (named e) ∙ ap name z in let y = sym (ap number_of d) ∙ z in omega arith

@@ -1,6 +1,6 @@
 use Rattle.promise.specs.Promise.{lists}
-use Rattle.promise.proofs.Asked.{live-asked}
-use Rattle.draining.proofs.Draining.{read-stale, read-drains}
+use Rattle.promise.proofs.Asked.{live_asked}
+use Rattle.draining.proofs.Draining.{read_stale, read_drains}
 use mathlib.Core.Path.{ap}
 use mathlib.Core.Bool.{not}
 use Rattle.draining.proofs.read_admitted.Goals as goal
@@ -10,7 +10,7 @@ returns-then-not-is_live c =
     let a = c.args in
     let pre = c.requires in
     let f = c.is_live in
-    let m = read-stale pre a.h.0 f.result f.ensures a.buf.now (lists a.wakes.now a.releases.now) c.refused.result (ap not c.if-not-is_live.true) c.refused.ensures in
+    let m = read_stale pre a.h.0 f.result f.ensures a.buf.now (lists a.wakes.now a.releases.now) c.refused.result (ap not c.if-not-is_live.true) c.refused.ensures in
     record { runs = m.0; fills = m.1 }
 
 pub drain-requires : goal.drain-requires
@@ -18,7 +18,7 @@ drain-requires c =
     let a = c.args in
     let pre = c.requires in
     let f = c.is_live in
-    let m = live-asked pre a.h.0 f.result f.ensures (ap not c.if-not-is_live.false) in
+    let m = live_asked pre a.h.0 f.result f.ensures (ap not c.if-not-is_live.false) in
     record { admitted = m.0; h_value = m.1 }
 
 pub returns : goal.returns
@@ -26,5 +26,5 @@ returns c =
     let a = c.args in
     let pre = c.requires in
     let f = c.is_live in
-    let m = read-drains pre a.h.0 f.result f.ensures (ap not c.if-not-is_live.false) a.buf.now _ _ _ _ (lists a.wakes.now a.releases.now) _ _ _ c.drain.ensures in
+    let m = read_drains pre a.h.0 f.result f.ensures (ap not c.if-not-is_live.false) a.buf.now _ _ _ _ (lists a.wakes.now a.releases.now) _ _ _ c.drain.ensures in
     record { runs = m.0; fills = m.1 }

@@ -1,6 +1,6 @@
 use Rattle.promise.specs.Promise.{lists}
-use Rattle.promise.proofs.Asked.{live-asked}
-use Rattle.draining.proofs.Draining.{recvmsg-stale, recvmsg-empty, recvmsg-drains}
+use Rattle.promise.proofs.Asked.{live_asked}
+use Rattle.draining.proofs.Draining.{recvmsg_stale, recvmsg_empty, recvmsg_drains}
 use mathlib.Core.Path.{ap}
 use mathlib.Core.Bool.{not}
 use Rattle.draining.proofs.recvmsg_admitted.Goals as goal
@@ -10,7 +10,7 @@ returns-then-not-is_live c =
     let a = c.args in
     let pre = c.requires in
     let f = c.is_live in
-    let m = recvmsg-stale pre a.h.0 f.result f.ensures a.buf.now a.items.now (lists a.wakes.now a.releases.now) c.refused.result (ap not c.if-not-is_live.true) c.refused.ensures in
+    let m = recvmsg_stale pre a.h.0 f.result f.ensures a.buf.now a.items.now (lists a.wakes.now a.releases.now) c.refused.result (ap not c.if-not-is_live.true) c.refused.ensures in
     record { runs = m.0; fills = m.1 }
 
 pub returns-then-buf-eq0 : goal.returns-then-buf-eq0
@@ -18,7 +18,7 @@ returns-then-buf-eq0 c =
     let a = c.args in
     let pre = c.requires in
     let f = c.is_live in
-    let m = recvmsg-empty pre a.h.0 f.result f.ensures (ap not c.if-not-is_live.false) a.buf.now a.items.now (lists a.wakes.now a.releases.now) c.refused-then-buf-eq0.result c.if-buf-eq0.true c.refused-then-buf-eq0.ensures in
+    let m = recvmsg_empty pre a.h.0 f.result f.ensures (ap not c.if-not-is_live.false) a.buf.now a.items.now (lists a.wakes.now a.releases.now) c.refused-then-buf-eq0.result c.if-buf-eq0.true c.refused-then-buf-eq0.ensures in
     record { runs = m.0; fills = m.1 }
 
 pub drain-requires : goal.drain-requires
@@ -26,7 +26,7 @@ drain-requires c =
     let a = c.args in
     let pre = c.requires in
     let f = c.is_live in
-    let m = live-asked pre a.h.0 f.result f.ensures (ap not c.if-not-is_live.false) in
+    let m = live_asked pre a.h.0 f.result f.ensures (ap not c.if-not-is_live.false) in
     record { admitted = m.0; h_value = m.1 }
 
 pub returns : goal.returns
@@ -34,5 +34,5 @@ returns c =
     let a = c.args in
     let pre = c.requires in
     let f = c.is_live in
-    let m = recvmsg-drains pre a.h.0 f.result f.ensures (ap not c.if-not-is_live.false) a.buf.now _ a.items.now _ (lists a.wakes.now a.releases.now) _ _ _ c.if-buf-eq0.false c.drain.ensures in
+    let m = recvmsg_drains pre a.h.0 f.result f.ensures (ap not c.if-not-is_live.false) a.buf.now _ a.items.now _ (lists a.wakes.now a.releases.now) _ _ _ c.if-buf-eq0.false c.drain.ensures in
     record { runs = m.0; fills = m.1 }

@@ -1,7 +1,7 @@
 use Rattle.storage.specs.Rows.{lent}
 use Rattle.promise.proofs.Known.{known}
-use Rattle.promise.proofs.Asked.{live-in, slots-in}
-use Rattle.ending.proofs.Ended.{stale, closed-never, unbound-closed, bound-closed, listener-told, socket-fits, socket-within, connected-closed, lists-room}
+use Rattle.promise.proofs.Asked.{live-in, slots_in}
+use Rattle.ending.proofs.Ended.{stale, closed_never, unbound_closed, bound_closed, listener_told, socket_fits, socket_within, connected_closed, lists_room}
 use mathlib.Core.Path.{ap}
 use mathlib.Core.Bool.{not}
 use Rattle.ending.proofs.close_admitted.Goals as goal
@@ -27,7 +27,7 @@ end_listener-requires c =
     let s = c.load-slot in
     let d = (ap not c.if-not-is_live.false) in
     let k = c.in-Listening.is in
-    let z = listener-told a.n a.c (lent a.words.now a.bytes.now a.tokens.now) a.wakes.now a.releases.now a.h.0 v.result v.ensures (record { refusal = 0; flags = 0; value = 0; items = 0; wakes = 0; releases = 0 }) (known p) d i.result i.ensures s.result s.ensures c.in-Listening.listener (search k) in
+    let z = listener_told a.n a.c (lent a.words.now a.bytes.now a.tokens.now) a.wakes.now a.releases.now a.h.0 v.result v.ensures (record { refusal = 0; flags = 0; value = 0; items = 0; wakes = 0; releases = 0 }) (known p) d i.result i.ensures s.result s.ensures c.in-Listening.listener (search k) in
     record { admitted = p; h_value = z.0; h_value_2 = (z.1, z.2) }
 
 pub end-requires : goal.end-requires
@@ -38,16 +38,16 @@ end-requires c =
     let i = c.slot_of-i in
     let s = c.load-slot in
     let d = (ap not c.if-not-is_live.false) in
-    let k = c.in-Connected.is in record { i_lt_n = (socket-within a.n a.c (lent a.words.now a.bytes.now a.tokens.now) a.wakes.now a.releases.now a.h.0 v.result v.ensures (record { refusal = 0; flags = 0; value = 0; items = 0; wakes = 0; releases = 0 }) (known p) d i.result i.ensures s.result s.ensures c.in-Connected.connection (search k), slots-in p, p.tokens, p.small); fits = socket-fits a.n a.c (lent a.words.now a.bytes.now a.tokens.now) a.wakes.now a.releases.now a.h.0 v.result v.ensures (record { refusal = 0; flags = 0; value = 0; items = 0; wakes = 0; releases = 0 }) (known p) d i.result i.ensures s.result s.ensures c.in-Connected.connection (search k); wakes_in_bounds = lists-room p }
+    let k = c.in-Connected.is in record { i_lt_n = (socket_within a.n a.c (lent a.words.now a.bytes.now a.tokens.now) a.wakes.now a.releases.now a.h.0 v.result v.ensures (record { refusal = 0; flags = 0; value = 0; items = 0; wakes = 0; releases = 0 }) (known p) d i.result i.ensures s.result s.ensures c.in-Connected.connection (search k), slots_in p, p.tokens, p.small); fits = socket_fits a.n a.c (lent a.words.now a.bytes.now a.tokens.now) a.wakes.now a.releases.now a.h.0 v.result v.ensures (record { refusal = 0; flags = 0; value = 0; items = 0; wakes = 0; releases = 0 }) (known p) d i.result i.ensures s.result s.ensures c.in-Connected.connection (search k); wakes_in_bounds = lists_room p }
 
 pub returns-in-Closed : goal.returns-in-Closed
-returns-in-Closed c = search (closed-never, known)
+returns-in-Closed c = search (closed_never, known)
 
 pub returns-in-Unbound : goal.returns-in-Unbound
-returns-in-Unbound c = search (unbound-closed, known)
+returns-in-Unbound c = search (unbound_closed, known)
 
 pub returns-in-Bound : goal.returns-in-Bound
-returns-in-Bound c = search (bound-closed, known)
+returns-in-Bound c = search (bound_closed, known)
 
 pub returns-in-Connected : goal.returns-in-Connected
 returns-in-Connected c =
@@ -59,4 +59,4 @@ returns-in-Connected c =
     let d = (ap not c.if-not-is_live.false) in
     let k = c.in-Connected.is in
     let e = c.end in
-    connected-closed a.n a.c (lent a.words.now a.bytes.now a.tokens.now) a.wakes.now a.releases.now a.h.0 v.result v.ensures c.closed.result (known p) d i.result i.ensures s.result s.ensures c.in-Connected.connection (search k) _ _ _ e.result e.ensures c.closed.ensures
+    connected_closed a.n a.c (lent a.words.now a.bytes.now a.tokens.now) a.wakes.now a.releases.now a.h.0 v.result v.ensures c.closed.result (known p) d i.result i.ensures s.result s.ensures c.in-Connected.connection (search k) _ _ _ e.result e.ensures c.closed.ensures

@@ -1,4 +1,4 @@
-use Rattle.ending.proofs.Ended.{ends-woken, ends-silent}
+use Rattle.ending.proofs.Ended.{ends_woken, ends_silent}
 use native.Mathlib.Omega.{arith}
 use Rattle.ending.proofs.end.Goals as goal
 
@@ -12,7 +12,7 @@ pub overflow_add-result : goal.overflow_add-result
 overflow_add-result c = let p = c.requires in let g = c.well_formed in omega (arith, p.wakes_in_bounds.0, g.1.1.0)
 
 pub returns-then-peer_open : goal.returns-then-peer_open
-returns-then-peer_open c = search ends-woken
+returns-then-peer_open c = search ends_woken
 
 pub returns : goal.returns
-returns c = search ends-silent
+returns c = search ends_silent

@@ -1,16 +1,16 @@
 use native.Mathlib.Omega.{arith}
 use Rattle.promise.proofs.Asked.{own_in}
-use Rattle.ending.proofs.Ended.{begun, left-first, going-first, going_on, going-words, going_done, serves-next, words-next, room_next, heads, entry-room}
+use Rattle.ending.proofs.Ended.{begun, left_first, going_first, going_on, going_words, going_done, serves_next, words_next, room_next, heads, entry_room}
 use Rattle.ending.proofs.end_listener.Goals as goal
 
 pub leave-requires : goal.leave-requires
 leave-requires c = let p = c.requires in own_in p.admitted c.args.h.0 p.h_value c.slot_of-i.result c.slot_of-i.ensures
 
 pub bounds-wakes-0 : goal.bounds-wakes-0
-bounds-wakes-0 c = let p = c.requires in let z = p.admitted.wake-list in omega arith
+bounds-wakes-0 c = let p = c.requires in let z = p.admitted.wake_list in omega arith
 
 pub loop-k-init : goal.loop-k-init
-loop-k-init c = (omega arith, going-first _ _ _ _ _ _ _ _ _ _)
+loop-k-init c = (omega arith, going_first _ _ _ _ _ _ _ _ _ _)
 
 pub overflow_add-listener : goal.overflow_add-listener
 overflow_add-listener c = let p = c.requires in let z = heads p.admitted c.args.h.0 c.args.listener p.h_value p.h_value_2.0 in let l = c.loop-k in omega (arith, z.0, z.1, z.2, l.invariant.0)
@@ -24,10 +24,10 @@ entry-server-requires c =
     let p = c.requires in
     let i = c.slot_of-i in
     let b = begun p.admitted i.result a.h.0 a.listener p.h_value p.h_value_2.0 i.ensures in
-    let f = left-first b a.generation _ a.wakes.now a.releases.now p.h_value_2.1 c.leave.ensures in
+    let f = left_first b a.generation _ a.wakes.now a.releases.now p.h_value_2.1 c.leave.ensures in
     let l = c.loop-k in
-    let z = going-words l.invariant.1 a.h.0 a.words.now a.wakes.now a.releases.now b f in
-    entry-room p.admitted a.h.0 p.h_value i.result i.ensures l.words z.0 c.place.result c.place.ensures.1
+    let z = going_words l.invariant.1 a.h.0 a.words.now a.wakes.now a.releases.now b f in
+    entry_room p.admitted a.h.0 p.h_value i.result i.ensures l.words z.0 c.place.result c.place.ensures.1
 
 pub end_server-done-requires : goal.end_server-done-requires
 end_server-done-requires c =
@@ -35,10 +35,10 @@ end_server-done-requires c =
     let p = c.requires in
     let i = c.slot_of-i in
     let b = begun p.admitted i.result a.h.0 a.listener p.h_value p.h_value_2.0 i.ensures in
-    let f = left-first b a.generation _ a.wakes.now a.releases.now p.h_value_2.1 c.leave.ensures in
+    let f = left_first b a.generation _ a.wakes.now a.releases.now p.h_value_2.1 c.leave.ensures in
     let l = c.loop-k in
     let pl = c.place in
-    let x = c.entry-server in record { serves = serves-next l.invariant.1 c.loop-k-test.true pl.result x.result.0 pl.ensures.0 x.ensures a.h.0 a.words.now a.wakes.now a.releases.now b f; n_in_bounds = words-next l.invariant.1 c.loop-k-test.true pl.result x.result.0 pl.ensures.0 x.ensures a.h.0 a.words.now a.wakes.now a.releases.now b f; wakes_in_bounds = room_next l.invariant.1 c.loop-k-test.true pl.result x.result.0 pl.ensures.0 x.ensures a.h.0 a.words.now a.wakes.now a.releases.now b f p.admitted.wake-list p.admitted.release-list }
+    let x = c.entry-server in record { serves = serves_next l.invariant.1 c.loop-k-test.true pl.result x.result.0 pl.ensures.0 x.ensures a.h.0 a.words.now a.wakes.now a.releases.now b f; n_in_bounds = words_next l.invariant.1 c.loop-k-test.true pl.result x.result.0 pl.ensures.0 x.ensures a.h.0 a.words.now a.wakes.now a.releases.now b f; wakes_in_bounds = room_next l.invariant.1 c.loop-k-test.true pl.result x.result.0 pl.ensures.0 x.ensures a.h.0 a.words.now a.wakes.now a.releases.now b f p.admitted.wake_list p.admitted.release_list }
 
 pub overflow_add-k : goal.overflow_add-k
 overflow_add-k c = let p = c.requires in let z = heads p.admitted c.args.h.0 c.args.listener p.h_value p.h_value_2.0 in omega (arith, z.1, z.2, c.loop-k-test.true)
@@ -60,6 +60,6 @@ returns c =
     let p = c.requires in
     let i = c.slot_of-i in
     let b = begun p.admitted i.result a.h.0 a.listener p.h_value p.h_value_2.0 i.ensures in
-    let f = left-first b a.generation _ a.wakes.now a.releases.now p.h_value_2.1 c.leave.ensures in
+    let f = left_first b a.generation _ a.wakes.now a.releases.now p.h_value_2.1 c.leave.ensures in
     let l = c.loop-k in
     going_done l.invariant.1 l.invariant.0 c.loop-k-test.false a.h.0 a.words.now a.wakes.now a.releases.now b f c.closed.result c.closed.ensures

@@ -1,4 +1,4 @@
-use Rattle.ending.proofs.Ended.{serves-always, server-fits, server-within, server-ended}
+use Rattle.ending.proofs.Ended.{serves_always, server_fits, server_within, server_ended}
 use Rattle.ending.proofs.end_server.Goals as goal
 
 pub returns-in_default : goal.returns-in_default
@@ -7,7 +7,7 @@ returns-in_default c =
     let s = c.load-slot in
     let a = c.args in
     let p = c.requires in
-    serves-always a.n a.c a.words.now a.server.0 i.result p.serves i.ensures s.result s.ensures c.in_default.not-Connected
+    serves_always a.n a.c a.words.now a.server.0 i.result p.serves i.ensures s.result s.ensures c.in_default.not-Connected
 
 pub end-requires : goal.end-requires
 end-requires c =
@@ -15,7 +15,7 @@ end-requires c =
     let s = c.load-slot in
     let k = c.in-Connected.is in
     let a = c.args in
-    let p = c.requires in record { i_lt_n = (server-within a.n a.c a.words.now a.server.0 i.result p.serves i.ensures s.result s.ensures c.in-Connected.connection (search k), p.n_in_bounds.0, p.n_in_bounds.1, p.n_in_bounds.2); fits = server-fits a.n a.c a.words.now a.server.0 i.result p.serves i.ensures s.result s.ensures c.in-Connected.connection (search k); wakes_in_bounds = p.wakes_in_bounds }
+    let p = c.requires in record { i_lt_n = (server_within a.n a.c a.words.now a.server.0 i.result p.serves i.ensures s.result s.ensures c.in-Connected.connection (search k), p.n_in_bounds.0, p.n_in_bounds.1, p.n_in_bounds.2); fits = server_fits a.n a.c a.words.now a.server.0 i.result p.serves i.ensures s.result s.ensures c.in-Connected.connection (search k); wakes_in_bounds = p.wakes_in_bounds }
 
 pub returns : goal.returns
 returns c =
@@ -25,4 +25,4 @@ returns c =
     let a = c.args in
     let p = c.requires in
     let e = c.end in
-    server-ended a.n a.c a.words.now a.server.0 i.result p.serves i.ensures s.result s.ensures c.in-Connected.connection (search k) _ _ _ _ _ _ _ e.result e.ensures
+    server_ended a.n a.c a.words.now a.server.0 i.result p.serves i.ensures s.result s.ensures c.in-Connected.connection (search k) _ _ _ _ _ _ _ e.result e.ensures

@@ -1,5 +1,5 @@
-use Rattle.inbox.proofs.Offsets.{dist-wraps}
+use Rattle.inbox.proofs.Offsets.{dist_wraps}
 use Rattle.inbox.proofs.distance.Goals as goal
 
 pub returns : goal.returns
-returns c = search dist-wraps
+returns c = search dist_wraps

@@ -1,4 +1,4 @@
-use Rattle.pairing.proofs.Reaching.{connect-stale, connect-unnamed, connect-long, connect-closed, connect-unbound, connect-bound, connect-listening, connect-connected}
+use Rattle.pairing.proofs.Reaching.{connect_stale, connect_unnamed, connect_long, connect_closed, connect_unbound, connect_bound, connect_listening, connect_connected}
 use Rattle.storage.specs.Rows.{lent}
 use Rattle.promise.specs.Promise.{lists}
 use Rattle.promise.specs.Answers.{refused_with}
@@ -8,13 +8,13 @@ use mathlib.Core.Bool.{not}
 use Rattle.pairing.proofs.connect_admitted.Goals as goal
 
 pub returns-then-not-is_live : goal.returns-then-not-is_live
-returns-then-not-is_live c = search connect-stale
+returns-then-not-is_live c = search connect_stale
 
 pub returns-then-name-eq0 : goal.returns-then-name-eq0
-returns-then-name-eq0 c = search connect-unnamed
+returns-then-name-eq0 c = search connect_unnamed
 
 pub returns-then-name-gt255 : goal.returns-then-name-gt255
-returns-then-name-gt255 c = search (connect-long, c.if-name-eq0.false)
+returns-then-name-gt255 c = search (connect_long, c.if-name-eq0.false)
 
 pub load-slot-requires : goal.load-slot-requires
 load-slot-requires c = search live-in
@@ -28,7 +28,7 @@ reach-requires c =
     let i = c.slot_of-i in
     let w = c.load-slot in record {
       admitted = c.requires;
-      caller = connect-unbound p.n p.c s ls p.h.0 p.name.now (refused_with 0) v.result v.ensures (ap not c.if-not-is_live.false) i.result w.result i.ensures w.ensures c.if-name-eq0.false
+      caller = connect_unbound p.n p.c s ls p.h.0 p.name.now (refused_with 0) v.result v.ensures (ap not c.if-not-is_live.false) i.result w.result i.ensures w.ensures c.if-name-eq0.false
           c.if-name-gt255.false c.in-Unbound.is;
     }
 
@@ -40,7 +40,7 @@ returns-in-Closed c =
     let v = c.is_live in
     let i = c.slot_of-i in
     let w = c.load-slot in
-    connect-closed p.n p.c s ls p.h.0 p.name.now c.refused-in-Closed.result v.result v.ensures (ap not c.if-not-is_live.false) i.result w.result i.ensures w.ensures c.if-name-eq0.false
+    connect_closed p.n p.c s ls p.h.0 p.name.now c.refused-in-Closed.result v.result v.ensures (ap not c.if-not-is_live.false) i.result w.result i.ensures w.ensures c.if-name-eq0.false
     c.if-name-gt255.false c.in-Closed.is
 
 pub returns-in-Bound : goal.returns-in-Bound
@@ -51,7 +51,7 @@ returns-in-Bound c =
     let v = c.is_live in
     let i = c.slot_of-i in
     let w = c.load-slot in
-    connect-bound p.n p.c s ls p.h.0 p.name.now c.refused-in-Bound.result v.result v.ensures (ap not c.if-not-is_live.false) i.result w.result i.ensures w.ensures c.if-name-eq0.false
+    connect_bound p.n p.c s ls p.h.0 p.name.now c.refused-in-Bound.result v.result v.ensures (ap not c.if-not-is_live.false) i.result w.result i.ensures w.ensures c.if-name-eq0.false
     c.if-name-gt255.false _ c.in-Bound.is c.refused-in-Bound.ensures
 
 pub returns-in-Listening : goal.returns-in-Listening
@@ -62,7 +62,7 @@ returns-in-Listening c =
     let v = c.is_live in
     let i = c.slot_of-i in
     let w = c.load-slot in
-    connect-listening p.n p.c s ls p.h.0 p.name.now c.refused-in-Listening.result v.result v.ensures (ap not c.if-not-is_live.false) i.result w.result i.ensures w.ensures c.if-name-eq0.false
+    connect_listening p.n p.c s ls p.h.0 p.name.now c.refused-in-Listening.result v.result v.ensures (ap not c.if-not-is_live.false) i.result w.result i.ensures w.ensures c.if-name-eq0.false
     c.if-name-gt255.false _ c.in-Listening.is c.refused-in-Listening.ensures
 
 pub returns-in-Connected : goal.returns-in-Connected
@@ -73,5 +73,5 @@ returns-in-Connected c =
     let v = c.is_live in
     let i = c.slot_of-i in
     let w = c.load-slot in
-    connect-connected p.n p.c s ls p.h.0 p.name.now c.refused-in-Connected.result v.result v.ensures (ap not c.if-not-is_live.false) i.result w.result i.ensures w.ensures c.if-name-eq0.false
+    connect_connected p.n p.c s ls p.h.0 p.name.now c.refused-in-Connected.result v.result v.ensures (ap not c.if-not-is_live.false) i.result w.result i.ensures w.ensures c.if-name-eq0.false
     c.if-name-gt255.false _ c.in-Connected.is c.refused-in-Connected.ensures

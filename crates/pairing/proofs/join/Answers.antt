@@ -1,4 +1,4 @@
-use Rattle.pairing.proofs.Storing.{all-joined, new_word, pair-asks}
+use Rattle.pairing.proofs.Storing.{all_joined, new_word, pair_asks}
 use Rattle.pairing.proofs.join.Goals as goal
 
 pub overflow_add-new : goal.overflow_add-new
@@ -8,7 +8,7 @@ pub pair-server-requires : goal.pair-server-requires
 pair-server-requires c =
     let p = c.args in
     let b = c.load-new in
-    pair-asks p.words.now p.j b.result b.ensures c.requires.j_bound.0 p.n p.h.0 p.l c.requires.h_bound
+    pair_asks p.words.now p.j b.result b.ensures c.requires.j_bound.0 p.n p.h.0 p.l c.requires.h_bound
 
 pub returns : goal.returns
-returns c = search all-joined
+returns c = search all_joined

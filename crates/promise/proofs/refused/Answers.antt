@@ -1,5 +1,5 @@
-use Rattle.promise.proofs.Answering.{refused-is}
+use Rattle.promise.proofs.Answering.{refused_is}
 use Rattle.promise.proofs.refused.Goals as goal
 
 pub returns : goal.returns
-returns c = search refused-is
+returns c = search refused_is

@@ -1,4 +1,4 @@
-use Rattle.readying.proofs.Readying.{stale, closed-never, of-unbound, of-bound, of-empty, of-waiting, of-connected}
+use Rattle.readying.proofs.Readying.{stale, closed_never, of_unbound, of_bound, of_empty, of_waiting, of_connected}
 use Rattle.promise.proofs.Known.{known}
 use Rattle.promise.proofs.Asked.{live-in}
 use Rattle.readying.proofs.readiness_admitted.Goals as goal
@@ -10,19 +10,19 @@ pub load-slot-requires : goal.load-slot-requires
 load-slot-requires c = search live-in
 
 pub returns-then-listener-eq0 : goal.returns-then-listener-eq0
-returns-then-listener-eq0 c = search (of-empty, known)
+returns-then-listener-eq0 c = search (of_empty, known)
 
 pub returns-in-Closed : goal.returns-in-Closed
-returns-in-Closed c = search (closed-never, known)
+returns-in-Closed c = search (closed_never, known)
 
 pub returns-in-Unbound : goal.returns-in-Unbound
-returns-in-Unbound c = search (of-unbound, known)
+returns-in-Unbound c = search (of_unbound, known)
 
 pub returns-in-Bound : goal.returns-in-Bound
-returns-in-Bound c = search (of-bound, known)
+returns-in-Bound c = search (of_bound, known)
 
 pub returns-else-listener-eq0 : goal.returns-else-listener-eq0
-returns-else-listener-eq0 c = search (of-waiting, known)
+returns-else-listener-eq0 c = search (of_waiting, known)
 
 pub returns-in-Connected : goal.returns-in-Connected
-returns-in-Connected c = search (of-connected, known)
+returns-in-Connected c = search (of_connected, known)

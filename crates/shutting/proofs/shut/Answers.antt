@@ -1,7 +1,7 @@
 use borrow.Author.Rules.{rules}
 use Rattle.promise.specs.Promise.{lists}
-use Rattle.promise.proofs.Asked.{some-wake, own_in}
-use Rattle.shutting.proofs.Shutting.{two-wakes, shuts-apart, end-asked, shuts-alone, peer-still, shuts-both}
+use Rattle.promise.proofs.Asked.{some_wake, own_in}
+use Rattle.shutting.proofs.Shutting.{two_wakes, shuts_apart, end_asked, shuts_alone, peer_still, shuts_both}
 use mathlib.Core.Path.{ap}
 use mathlib.Core.Bool.{not}
 use Rattle.shutting.proofs.shut.Goals as goal
@@ -19,7 +19,7 @@ returns-in_default c =
     let pre = c.requires in
     let i = c.slot_of-i in
     let s = c.load-slot in
-    shuts-apart pre.admitted a.h.0 pre.h_value i.result i.ensures s.result s.ensures a.read a.write (lists a.wakes.now a.releases.now) c.refused.result c.in_default.not-Connected c.refused.ensures
+    shuts_apart pre.admitted a.h.0 pre.h_value i.result i.ensures s.result s.ensures a.read a.write (lists a.wakes.now a.releases.now) c.refused.result c.in_default.not-Connected c.refused.ensures
 
 pub end_own-released-requires : goal.end_own-released-requires
 end_own-released-requires c =
@@ -28,11 +28,11 @@ end_own-released-requires c =
     let i = c.slot_of-i in
     let s = c.load-slot in
     let k = c.in-Connected.is in
-    let m = end-asked pre.admitted a.h.0 pre.h_value i.result i.ensures s.result s.ensures c.in-Connected.connection (search k) in
+    let m = end_asked pre.admitted a.h.0 pre.h_value i.result i.ensures s.result s.ensures c.in-Connected.connection (search k) in
     record { i_in_bounds = m.0; head_lt_c = m.1 }
 
 pub bounds-wakes-0 : goal.bounds-wakes-0
-bounds-wakes-0 c = some-wake c.requires.admitted
+bounds-wakes-0 c = some_wake c.requires.admitted
 
 pub returns-then-not-peer_open : goal.returns-then-not-peer_open
 returns-then-not-peer_open c =
@@ -43,7 +43,7 @@ returns-then-not-peer_open c =
     let k = c.in-Connected.is in
     let f = c.is_open-peer_open in
     let e = c.end_own-released in
-    shuts-alone pre.admitted a.h.0 pre.h_value i.result i.ensures s.result s.ensures c.in-Connected.connection (search k) f.result f.ensures a.read a.write _ _ _ e.result e.ensures a.wakes.now c.shut_down.result (ap not c.if-not-peer_open.true) c.shut_down.ensures
+    shuts_alone pre.admitted a.h.0 pre.h_value i.result i.ensures s.result s.ensures c.in-Connected.connection (search k) f.result f.ensures a.read a.write _ _ _ e.result e.ensures a.wakes.now c.shut_down.result (ap not c.if-not-peer_open.true) c.shut_down.ensures
 
 pub end_peer-requires : goal.end_peer-requires
 end_peer-requires c =
@@ -54,10 +54,10 @@ end_peer-requires c =
     let k = c.in-Connected.is in
     let f = c.is_open-peer_open in
     let e = c.end_own-released in
-    peer-still pre.admitted a.h.0 pre.h_value i.result i.ensures s.result s.ensures c.in-Connected.connection (search k) f.result f.ensures a.read a.write _ _ _ e.result e.ensures (ap not c.if-not-peer_open.false)
+    peer_still pre.admitted a.h.0 pre.h_value i.result i.ensures s.result s.ensures c.in-Connected.connection (search k) f.result f.ensures a.read a.write _ _ _ e.result e.ensures (ap not c.if-not-peer_open.false)
 
 pub bounds-wakes-1 : goal.bounds-wakes-1
-bounds-wakes-1 c = let p = two-wakes c.requires.admitted in search (p, rules)
+bounds-wakes-1 c = let p = two_wakes c.requires.admitted in search (p, rules)
 
 pub returns : goal.returns
 returns c =
@@ -69,4 +69,4 @@ returns c =
     let f = c.is_open-peer_open in
     let e = c.end_own-released in
     let p = c.end_peer in
-    shuts-both pre.admitted a.h.0 pre.h_value i.result i.ensures s.result s.ensures c.in-Connected.connection (search k) f.result f.ensures a.read a.write _ _ _ e.result e.ensures (ap not c.if-not-peer_open.false) _ a.wakes.now c.shut_down-2.result p.ensures c.shut_down-2.ensures
+    shuts_both pre.admitted a.h.0 pre.h_value i.result i.ensures s.result s.ensures c.in-Connected.connection (search k) f.result f.ensures a.read a.write _ _ _ e.result e.ensures (ap not c.if-not-peer_open.false) _ a.wakes.now c.shut_down-2.result p.ensures c.shut_down-2.ensures

@@ -1,24 +1,24 @@
 use mir.Facts.{to_z-of_z}
 use Rattle.storage.specs.Rows.{lent}
-use Rattle.promise.proofs.Asked.{live-asked}
-use Rattle.shutting.proofs.Shutting.{shutdown-stale, shutdown-refused, shutdown-shuts}
+use Rattle.promise.proofs.Asked.{live_asked}
+use Rattle.shutting.proofs.Shutting.{shutdown_stale, shutdown_refused, shutdown_shuts}
 use mathlib.Core.Path.{ap}
 use mathlib.Core.Bool.{not}
 use Rattle.shutting.proofs.shutdown_admitted.Goals as goal
 
 pub returns-then-not-is_live : goal.returns-then-not-is_live
-returns-then-not-is_live c = search (shutdown-stale, to_z-of_z)
+returns-then-not-is_live c = search (shutdown_stale, to_z-of_z)
 
 pub shut-requires : goal.shut-requires
 shut-requires c =
     let a = c.args in
     let pre = c.requires in
     let f = c.is_live in
-    let m = live-asked pre a.h.0 f.result f.ensures (ap not c.if-not-is_live.false) in
+    let m = live_asked pre a.h.0 f.result f.ensures (ap not c.if-not-is_live.false) in
     record { admitted = m.0; h_value = m.1 }
 
 pub returns-in-Refused : goal.returns-in-Refused
-returns-in-Refused c = search (shutdown-refused, to_z-of_z)
+returns-in-Refused c = search (shutdown_refused, to_z-of_z)
 
 pub returns-in-Is : goal.returns-in-Is
 returns-in-Is c =
@@ -29,4 +29,4 @@ returns-in-Is c =
     let rd = c.reads-read in
     let wr = c.writes-write in
     let y = c.shut in
-    shutdown-shuts a.n a.c (lent a.words.now a.bytes.now a.tokens.now) a.h.0 a.how f.result f.ensures (ap not c.if-not-is_live.false) _ (to_z-of_z c.ranges.how) x.result x.ensures c.in-Is.ends (search m) rd.result wr.result rd.ensures wr.ensures _ _ _ _ y.ensures
+    shutdown_shuts a.n a.c (lent a.words.now a.bytes.now a.tokens.now) a.h.0 a.how f.result f.ensures (ap not c.if-not-is_live.false) _ (to_z-of_z c.ranges.how) x.result x.ensures c.in-Is.ends (search m) rd.result wr.result rd.ensures wr.ensures _ _ _ _ y.ensures

@@ -1,5 +1,5 @@
 use native.Mathlib.Omega.{arith}
-use Rattle.syscall.proofs.Encoding.{none, too_many, enough, header-held, space-held, to_the_end, padded}
+use Rattle.syscall.proofs.Encoding.{none, too_many, enough, header_held, space_held, to_the_end, padded}
 use borrow.Author.Rules.{rules}
 use Rattle.syscall.proofs.encode_scm_rights.Goals as goal
 
@@ -10,10 +10,10 @@ pub returns-then-n-eq0 : goal.returns-then-n-eq0
 returns-then-n-eq0 c = search none
 
 pub returns-in_default : goal.returns-in_default
-returns-in_default c = header-held _ _ _ c.scm_rights_capacity.ensures (search rules) c.if-n-eq0.false (omega arith) _ _ _ _ c.scm_rights.ensures c.in_default.is
+returns-in_default c = header_held _ _ _ c.scm_rights_capacity.ensures (search rules) c.if-n-eq0.false (omega arith) _ _ _ _ c.scm_rights.ensures c.in_default.is
 
 pub returns-in_default-scm_rights_space : goal.returns-in_default-scm_rights_space
-returns-in_default-scm_rights_space c = space-held _ _ _ c.scm_rights_capacity.ensures (search rules) c.if-n-eq0.false (omega arith) _ _ _ _ c.scm_rights_space.ensures c.in_default-scm_rights_space.is
+returns-in_default-scm_rights_space c = space_held _ _ _ c.scm_rights_capacity.ensures (search rules) c.if-n-eq0.false (omega arith) _ _ _ _ c.scm_rights_space.ensures c.in_default-scm_rights_space.is
 
 pub write_header-requires : goal.write_header-requires
 write_header-requires c = let a = c.args in omega (arith, enough a.fds.now a.control.now _ c.scm_rights_capacity.ensures (search rules) c.if-n-eq0.false)

@@ -1,20 +1,20 @@
 use mathlib.Core.List.{[]}
 use native.Mathlib.Omega.{arith}
-use Rattle.syscall.proofs.Parsing.{no-control, under-16, not-rights, says, short-list, fits-list, parsed}
+use Rattle.syscall.proofs.Parsing.{no_control, under_16, not_rights, says, short_list, fits_list, parsed}
 use borrow.Author.Rules.{rules}
 use Rattle.syscall.proofs.parse_scm_rights.Goals as goal
 
 pub returns-then-control-eq0 : goal.returns-then-control-eq0
-returns-then-control-eq0 c = search no-control
+returns-then-control-eq0 c = search no_control
 
 pub returns-then-control-lt16 : goal.returns-then-control-lt16
-returns-then-control-lt16 c = under-16 _ _ c.if-control-eq0.false (search rules)
+returns-then-control-lt16 c = under_16 _ _ c.if-control-eq0.false (search rules)
 
 pub returns-in_default : goal.returns-in_default
-returns-in_default c = not-rights _ _ c.if-control-eq0.false (search rules) _ c.read_header-hdr.ensures _ c.scm_rights_count.ensures c.in_default.is
+returns-in_default c = not_rights _ _ c.if-control-eq0.false (search rules) _ c.read_header-hdr.ensures _ c.scm_rights_count.ensures c.in_default.is
 
 pub returns-then-n-fds : goal.returns-then-n-fds
-returns-then-n-fds c = short-list _ _ c.if-control-eq0.false (search rules) _ c.read_header-hdr.ensures _ _ c.scm_rights_count.ensures c.in-Of.is (search rules)
+returns-then-n-fds c = short_list _ _ c.if-control-eq0.false (search rules) _ c.read_header-hdr.ensures _ _ c.scm_rights_count.ensures c.in-Of.is (search rules)
 
 pub slice_bounds-read_descriptors-count : goal.slice_bounds-read_descriptors-count
 slice_bounds-read_descriptors-count c = omega (arith, says _ [] c.if-control-eq0.false (search rules) _ c.read_header-hdr.ensures _ _ c.scm_rights_count.ensures c.in-Of.is)
@@ -26,7 +26,7 @@ pub slice_bounds-read_descriptors-end : goal.slice_bounds-read_descriptors-end
 slice_bounds-read_descriptors-end c = omega (arith, says _ [] c.if-control-eq0.false (search rules) _ c.read_header-hdr.ensures _ _ c.scm_rights_count.ensures c.in-Of.is)
 
 pub read_descriptors-requires : goal.read_descriptors-requires
-read_descriptors-requires c = fits-list _ c.args.fds.now c.if-control-eq0.false (search rules) _ c.read_header-hdr.ensures _ _ c.scm_rights_count.ensures c.in-Of.is (search rules)
+read_descriptors-requires c = fits_list _ c.args.fds.now c.if-control-eq0.false (search rules) _ c.read_header-hdr.ensures _ _ c.scm_rights_count.ensures c.in-Of.is (search rules)
 
 pub returns : goal.returns
 returns c = parsed _ _ c.if-control-eq0.false (search rules) _ c.read_header-hdr.ensures _ _ c.scm_rights_count.ensures c.in-Of.is (search rules) _ c.read_descriptors.ensures

@@ -1,15 +1,15 @@
-use Rattle.syscall.proofs.Checks.{other-domain, other-type, other-protocol, stream}
+use Rattle.syscall.proofs.Checks.{other_domain, other_type, other_protocol, stream}
 use borrow.Author.Rules.{rules}
 use Rattle.syscall.proofs.socket_refusal.Goals as goal
 
 pub returns-then-domain-ne1 : goal.returns-then-domain-ne1
-returns-then-domain-ne1 c = other-domain _ _ _ c.if-domain-ne1.true
+returns-then-domain-ne1 c = other_domain _ _ _ c.if-domain-ne1.true
 
 pub returns-then-ty-ne-SOCK_STREAM : goal.returns-then-ty-ne-SOCK_STREAM
-returns-then-ty-ne-SOCK_STREAM c = other-type _ _ _ (search rules) (search rules) c.if-ty-ne-SOCK_STREAM.true
+returns-then-ty-ne-SOCK_STREAM c = other_type _ _ _ (search rules) (search rules) c.if-ty-ne-SOCK_STREAM.true
 
 pub returns-then-protocol-ne0 : goal.returns-then-protocol-ne0
-returns-then-protocol-ne0 c = other-protocol _ _ _ (search rules) (search rules) (search rules) (search rules) c.if-protocol-ne0.true
+returns-then-protocol-ne0 c = other_protocol _ _ _ (search rules) (search rules) (search rules) (search rules) c.if-protocol-ne0.true
 
 pub returns : goal.returns
 returns c = search (stream, rules)

@@ -1,4 +1,4 @@
-use Rattle.table.proofs.Runs.{closed-here}
+use Rattle.table.proofs.Runs.{closed_here}
 use Rattle.table.proofs.skip_closed.Goals as goal
 
 pub loop-i-init : goal.loop-i-init
@@ -11,7 +11,7 @@ pub returns-then-words-b-gt4294967295 : goal.returns-then-words-b-gt4294967295
 returns-then-words-b-gt4294967295 c = c.loop-i.invariant
 
 pub loop-i-preserved : goal.loop-i-preserved
-loop-i-preserved c = closed-here _ _ _ _ c.loop-i-test.true c.loop-i.invariant c.if-words-b-ne0.false c.if-words-b-gt4294967295.false
+loop-i-preserved c = closed_here _ _ _ _ c.loop-i-test.true c.loop-i.invariant c.if-words-b-ne0.false c.if-words-b-gt4294967295.false
 
 pub returns : goal.returns
 returns c = c.loop-i.invariant

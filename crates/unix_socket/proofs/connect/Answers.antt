@@ -1,4 +1,4 @@
-use Rattle.unix_socket.proofs.Entered.{enters, refused-first, then_runs}
+use Rattle.unix_socket.proofs.Entered.{enters, refused_first, then_runs}
 use Rattle.unix_socket.proofs.connect.Goals as goal
 
 pub connect_admitted-requires : goal.connect_admitted-requires
@@ -7,7 +7,7 @@ connect_admitted-requires c =
     enters v.result v.ensures (search c.in-Accepted.is)
 
 pub returns-in-Refused : goal.returns-in-Refused
-returns-in-Refused c = search refused-first
+returns-in-Refused c = search refused_first
 
 pub returns-in-Accepted : goal.returns-in-Accepted
 returns-in-Accepted c = search then_runs

@@ -1,4 +1,4 @@
-use Rattle.unix_socket.proofs.Entered.{enters, refused-first, then_runs, refused-fills, then-fills}
+use Rattle.unix_socket.proofs.Entered.{enters, refused_first, then_runs, refused_fills, then_fills}
 use Rattle.unix_socket.proofs.recvmsg.Goals as goal
 
 pub recvmsg_admitted-requires : goal.recvmsg_admitted-requires
@@ -7,7 +7,7 @@ recvmsg_admitted-requires c =
     enters v.result v.ensures (search c.in-Accepted.is)
 
 pub returns-in-Refused : goal.returns-in-Refused
-returns-in-Refused c = search (refused-first, refused-fills)
+returns-in-Refused c = search (refused_first, refused_fills)
 
 pub returns-in-Accepted : goal.returns-in-Accepted
-returns-in-Accepted c = search (then_runs, then-fills)
+returns-in-Accepted c = search (then_runs, then_fills)

@@ -1,4 +1,4 @@
-use Rattle.unix_socket.proofs.Entered.{enters, refused-first, then-socket}
+use Rattle.unix_socket.proofs.Entered.{enters, refused_first, then_socket}
 use mir.Facts.{to_z-of_z}
 use Rattle.storage.specs.Rows.{lent}
 use Rattle.promise.specs.Promise.{lists}
@@ -10,7 +10,7 @@ socket_admitted-requires c =
     enters v.result v.ensures (search c.in-Accepted.is)
 
 pub returns-in-Refused : goal.returns-in-Refused
-returns-in-Refused c = search refused-first
+returns-in-Refused c = search refused_first
 
 pub returns-in-Accepted : goal.returns-in-Accepted
 returns-in-Accepted c =
@@ -18,5 +18,5 @@ returns-in-Accepted c =
     let f = c.ranges in
     let v = c.admission in
     let d = c.socket_admitted in
-    then-socket a.n a.c (lent a.words.now a.bytes.now a.tokens.now) (lists a.wakes.now a.releases.now) v.result v.ensures (search c.in-Accepted.is) a.domain a.ty a.protocol _ _ _ _ _ d.result
+    then_socket a.n a.c (lent a.words.now a.bytes.now a.tokens.now) (lists a.wakes.now a.releases.now) v.result v.ensures (search c.in-Accepted.is) a.domain a.ty a.protocol _ _ _ _ _ d.result
     (to_z-of_z f.domain) (to_z-of_z f.ty) (to_z-of_z f.protocol) d.ensures

@@ -1,9 +1,9 @@
-use Rattle.abi.proofs.Headers.{a-name, a-length, many, count}
+use Rattle.abi.proofs.Headers.{a_name, a-length, many, count}
 use borrow.Author.Rules.{rules}
 use Rattle.abi.proofs.MsgHdr.iovec_count.Goals as goal
 
 pub returns-then-self-ne0 : goal.returns-then-self-ne0
-returns-then-self-ne0 c = a-name _ c.if-self-ne0.true
+returns-then-self-ne0 c = a_name _ c.if-self-ne0.true
 
 pub returns-then-self-ne0-2 : goal.returns-then-self-ne0-2
 returns-then-self-ne0-2 c = a-length _ (search rules) c.if-self-ne0-2.true

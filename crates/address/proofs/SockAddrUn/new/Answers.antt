@@ -1,4 +1,4 @@
-use Rattle.address.proofs.Addresses.{no_room, long_path, bad-path, wrote}
+use Rattle.address.proofs.Addresses.{no_room, long_path, bad_path, wrote}
 use Rattle.address.proofs.SockAddrUn.new.Goals as goal
 
 -- The family, then the path, then zeros.
@@ -9,7 +9,7 @@ pub returns-then-path-ge-SUN_PATH_MAX : goal.returns-then-path-ge-SUN_PATH_MAX
 returns-then-path-ge-SUN_PATH_MAX c = search long_path
 
 pub returns-then-not-is_utf8 : goal.returns-then-not-is_utf8
-returns-then-not-is_utf8 c = search bad-path
+returns-then-not-is_utf8 c = search bad_path
 
 pub returns : goal.returns
 returns c = search wrote

@@ -1,17 +1,17 @@
-use Rattle.address.proofs.Addresses.{under-two, other-family, no-path, bad, fine}
+use Rattle.address.proofs.Addresses.{under_two, other_family, no_path, bad, fine}
 use borrow.Author.Rules.{rules}
 use mathlib.Core.Path.{ap}
 use mathlib.Core.Bool.{not}
 use Rattle.address.proofs.SockAddrUn.path_refusal.Goals as goal
 
 pub returns-then-addr-lt2 : goal.returns-then-addr-lt2
-returns-then-addr-lt2 c = search under-two
+returns-then-addr-lt2 c = search under_two
 
 pub returns-then-get_u16-ne-AF_UNIX : goal.returns-then-get_u16-ne-AF_UNIX
-returns-then-get_u16-ne-AF_UNIX c = other-family _ (search rules) _ c.get_u16.ensures c.if-get_u16-ne-AF_UNIX.true
+returns-then-get_u16-ne-AF_UNIX c = other_family _ (search rules) _ c.get_u16.ensures c.if-get_u16-ne-AF_UNIX.true
 
 pub returns-then-end-eq2 : goal.returns-then-end-eq2
-returns-then-end-eq2 c = search no-path
+returns-then-end-eq2 c = search no_path
 
 pub returns-then-not-is_utf8 : goal.returns-then-not-is_utf8
 returns-then-not-is_utf8 c = search bad

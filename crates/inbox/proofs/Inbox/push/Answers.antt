@@ -1,24 +1,24 @@
 use Rattle.std.proofs.Common.{length, arith, rules}
 use Rattle.inbox.specs.View.{count}
-use Rattle.inbox.proofs.Parts.{may-fit, pushes}
+use Rattle.inbox.proofs.Parts.{may_fit, pushes}
 use Rattle.inbox.proofs.Inbox.push.Goals as goal
 
 pub fill_u64-requires : goal.fill_u64-requires
 fill_u64-requires c =
     let a = c.args in
-    let z = may-fit (length a.ring.now) (count a.self) (length a.buf.now) a.self.items (length a.items.now) c.requires.may_push (omega (arith, c.requires)) in
+    let z = may_fit (length a.ring.now) (count a.self) (length a.buf.now) a.self.items (length a.items.now) c.requires.may_push (omega (arith, c.requires)) in
     search rules
 
 pub write_u32-requires : goal.write_u32-requires
 write_u32-requires c =
     let a = c.args in
-    let z = may-fit (length a.ring.now) (count a.self) (length a.buf.now) a.self.items (length a.items.now) c.requires.may_push (omega (arith, c.requires)) in
+    let z = may_fit (length a.ring.now) (count a.self) (length a.buf.now) a.self.items (length a.items.now) c.requires.may_push (omega (arith, c.requires)) in
     search rules
 
 pub overflow_add-result : goal.overflow_add-result
 overflow_add-result c =
     let a = c.args in
-    let z = may-fit (length a.ring.now) (count a.self) (length a.buf.now) a.self.items (length a.items.now) c.requires.may_push (omega (arith, c.requires)) in
+    let z = may_fit (length a.ring.now) (count a.self) (length a.buf.now) a.self.items (length a.items.now) c.requires.may_push (omega (arith, c.requires)) in
     omega arith
 
 pub returns : goal.returns

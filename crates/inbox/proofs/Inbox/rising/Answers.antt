@@ -1,7 +1,7 @@
 use Rattle.std.proofs.Common.{ℕ, sym, refl, ap, ◌∙◌, arith, rules}
 use Rattle.inbox.specs.View.{distances}
 use Rattle.inbox.specs.Well.{rises}
-use Rattle.inbox.proofs.Parts.{rises-on, falls, beyond, rises-end}
+use Rattle.inbox.proofs.Parts.{rises_on, falls, beyond, rises_end}
 use Rattle.inbox.proofs.Inbox.rising.Goals as goal
 
 pub loop-i-init : goal.loop-i-init
@@ -32,11 +32,11 @@ loop-i-preserved c =
     let l = c.loop-i in
     let p = c.place in
     let d = c.distance-d in
-    (omega arith, l.invariant.1 ∙ rises-on a.self a.places.now l.i l.low q.result p.result d.result (omega arith) (omega arith) (omega arith) (omega arith) p.ensures.0 d.ensures (omega arith) (omega arith))
+    (omega arith, l.invariant.1 ∙ rises_on a.self a.places.now l.i l.low q.result p.result d.result (omega arith) (omega arith) (omega arith) (omega arith) p.ensures.0 d.ensures (omega arith) (omega arith))
 
 pub returns : goal.returns
 returns c =
     let a = c.args in
     let q = c.queued-n in
     let l = c.loop-i in
-    rises-end a.self a.places.now l.i l.low q.result (omega arith) (omega arith) (omega arith) (omega arith) ∙ sym l.invariant.1 ∙ ap (λ (x : ℕ). rises 0 x (distances a.self a.places.now)) q.ensures
+    rises_end a.self a.places.now l.i l.low q.result (omega arith) (omega arith) (omega arith) (omega arith) ∙ sym l.invariant.1 ∙ ap (λ (x : ℕ). rises 0 x (distances a.self a.places.now)) q.ensures

@@ -1,6 +1,6 @@
 use Rattle.std.proofs.Common.{length, arith, rules}
-use Rattle.inbox.proofs.Shows.{reach-le}
-use Rattle.inbox.proofs.Parts.{handed-few}
+use Rattle.inbox.proofs.Shows.{reach_le}
+use Rattle.inbox.proofs.Parts.{handed_few}
 use Rattle.inbox.proofs.Parts.{takes}
 use Rattle.inbox.proofs.Inbox.take.Goals as goal
 
@@ -11,7 +11,7 @@ read_u8-requires c =
     let g = c.group-g in
     let r = c.reach in
     let k = c.least-k in
-    let z = reach-le a.places.now a.self g.result pre.well.rising in
+    let z = reach_le a.places.now a.self g.result pre.well.rising in
     search rules
 
 pub hand_over-requires : goal.hand_over-requires
@@ -19,7 +19,7 @@ hand_over-requires c =
     let a = c.args in
     let g = c.group-g in
     let m = c.handed-m in
-    let z = handed-few a.policy g.result (length a.items.now) in
+    let z = handed_few a.policy g.result (length a.items.now) in
     search rules
 
 pub overflow_sub-result : goal.overflow_sub-result
@@ -27,7 +27,7 @@ overflow_sub-result c =
     let a = c.args in
     let g = c.group-g in
     let m = c.handed-m in
-    let z = handed-few a.policy g.result (length a.items.now) in
+    let z = handed_few a.policy g.result (length a.items.now) in
     omega arith
 
 pub moved_on-requires : goal.moved_on-requires
@@ -37,7 +37,7 @@ moved_on-requires c =
     let g = c.group-g in
     let r = c.reach in
     let k = c.least-k in
-    let z = reach-le a.places.now a.self g.result pre.well.rising in
+    let z = reach_le a.places.now a.self g.result pre.well.rising in
     search rules
 
 pub returns : goal.returns

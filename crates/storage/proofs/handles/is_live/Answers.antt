@@ -1,4 +1,4 @@
-use Rattle.storage.proofs.Finds.{not_live, open-slot, live-by-state}
+use Rattle.storage.proofs.Finds.{not_live, open_slot, live_by_state}
 use mathlib.Core.Path.{sym, ◌∙◌}
 use borrow.Author.Rules.{rules}
 use Rattle.storage.proofs.handles.is_live.Goals as goal
@@ -10,8 +10,8 @@ pub load-slot-requires : goal.load-slot-requires
 load-slot-requires c =
     let a = c.args in
     let o = c.is_open in
-    let z = open-slot a.n a.words.now a.h.0 (sym o.ensures ∙ c.if-not-is_open.false) in
+    let z = open_slot a.n a.words.now a.h.0 (sym o.ensures ∙ c.if-not-is_open.false) in
     search rules
 
 pub returns : goal.returns
-returns c = search live-by-state
+returns c = search live_by_state

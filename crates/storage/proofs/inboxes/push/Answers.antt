@@ -1,4 +1,4 @@
-use Rattle.storage.proofs.Lending.{may-push, pushes-at}
+use Rattle.storage.proofs.Lending.{may-push, pushes_at}
 use Rattle.storage.proofs.Rooms.{rooms}
 use Rattle.storage.proofs.inboxes.push.Goals as goal
 
@@ -6,7 +6,7 @@ pub overflow_mul-p : goal.overflow_mul-p
 overflow_mul-p c = let pre = c.requires in (rooms pre.i_lt_n.0 pre.i_lt_n.1).cells
 
 pub overflow_add-p : goal.overflow_add-p
-overflow_add-p c = let pre = c.requires in (rooms pre.i_lt_n.0 pre.i_lt_n.1).before-places
+overflow_add-p c = let pre = c.requires in (rooms pre.i_lt_n.0 pre.i_lt_n.1).before_places
 
 pub overflow_mul-p-2 : goal.overflow_mul-p-2
 overflow_mul-p-2 c = let pre = c.requires in (rooms pre.i_lt_n.0 pre.i_lt_n.1).row
@@ -21,46 +21,46 @@ pub overflow_mul-t : goal.overflow_mul-t
 overflow_mul-t c = let pre = c.requires in (rooms pre.i_lt_n.0 pre.i_lt_n.1).row
 
 pub overflow_add-b : goal.overflow_add-b
-overflow_add-b c = let pre = c.requires in (rooms pre.i_lt_n.0 pre.i_lt_n.1).ring-end
+overflow_add-b c = let pre = c.requires in (rooms pre.i_lt_n.0 pre.i_lt_n.1).ring_end
 
 pub slice_bounds-push-count : goal.slice_bounds-push-count
-slice_bounds-push-count c = let pre = c.requires in (rooms pre.i_lt_n.0 pre.i_lt_n.1).ring-from
+slice_bounds-push-count c = let pre = c.requires in (rooms pre.i_lt_n.0 pre.i_lt_n.1).ring_from
 
 pub slice_bounds-push-start : goal.slice_bounds-push-start
-slice_bounds-push-start c = let pre = c.requires in (rooms pre.i_lt_n.0 pre.i_lt_n.1).ring-from
+slice_bounds-push-start c = let pre = c.requires in (rooms pre.i_lt_n.0 pre.i_lt_n.1).ring_from
 
 pub slice_bounds-push-end : goal.slice_bounds-push-end
-slice_bounds-push-end c = let pre = c.requires in (rooms pre.i_lt_n.0 pre.i_lt_n.1).ring-to
+slice_bounds-push-end c = let pre = c.requires in (rooms pre.i_lt_n.0 pre.i_lt_n.1).ring_to
 
 pub overflow_add-p-3 : goal.overflow_add-p-3
-overflow_add-p-3 c = let pre = c.requires in (rooms pre.i_lt_n.0 pre.i_lt_n.1).places-end
+overflow_add-p-3 c = let pre = c.requires in (rooms pre.i_lt_n.0 pre.i_lt_n.1).places_end
 
 pub offset_bounds-words-p : goal.offset_bounds-words-p
-offset_bounds-words-p c = let pre = c.requires in (rooms pre.i_lt_n.0 pre.i_lt_n.1).places-scaled
+offset_bounds-words-p c = let pre = c.requires in (rooms pre.i_lt_n.0 pre.i_lt_n.1).places_scaled
 
 pub slice_bounds-push-count-2 : goal.slice_bounds-push-count-2
-slice_bounds-push-count-2 c = let pre = c.requires in (rooms pre.i_lt_n.0 pre.i_lt_n.1).places-from
+slice_bounds-push-count-2 c = let pre = c.requires in (rooms pre.i_lt_n.0 pre.i_lt_n.1).places_from
 
 pub slice_bounds-push-start-2 : goal.slice_bounds-push-start-2
-slice_bounds-push-start-2 c = let pre = c.requires in (rooms pre.i_lt_n.0 pre.i_lt_n.1).places-from
+slice_bounds-push-start-2 c = let pre = c.requires in (rooms pre.i_lt_n.0 pre.i_lt_n.1).places_from
 
 pub slice_bounds-push-end-2 : goal.slice_bounds-push-end-2
-slice_bounds-push-end-2 c = let pre = c.requires in (rooms pre.i_lt_n.0 pre.i_lt_n.1).places-to
+slice_bounds-push-end-2 c = let pre = c.requires in (rooms pre.i_lt_n.0 pre.i_lt_n.1).places_to
 
 pub overflow_add-t : goal.overflow_add-t
-overflow_add-t c = let pre = c.requires in (rooms pre.i_lt_n.0 pre.i_lt_n.1).tokens-end
+overflow_add-t c = let pre = c.requires in (rooms pre.i_lt_n.0 pre.i_lt_n.1).tokens_end
 
 pub offset_bounds-tokens-t : goal.offset_bounds-tokens-t
-offset_bounds-tokens-t c = let pre = c.requires in (rooms pre.i_lt_n.0 pre.i_lt_n.1).tokens-scaled
+offset_bounds-tokens-t c = let pre = c.requires in (rooms pre.i_lt_n.0 pre.i_lt_n.1).tokens_scaled
 
 pub slice_bounds-push-count-3 : goal.slice_bounds-push-count-3
-slice_bounds-push-count-3 c = let pre = c.requires in (rooms pre.i_lt_n.0 pre.i_lt_n.1).tokens-from
+slice_bounds-push-count-3 c = let pre = c.requires in (rooms pre.i_lt_n.0 pre.i_lt_n.1).tokens_from
 
 pub slice_bounds-push-start-3 : goal.slice_bounds-push-start-3
-slice_bounds-push-start-3 c = let pre = c.requires in (rooms pre.i_lt_n.0 pre.i_lt_n.1).tokens-from
+slice_bounds-push-start-3 c = let pre = c.requires in (rooms pre.i_lt_n.0 pre.i_lt_n.1).tokens_from
 
 pub slice_bounds-push-end-3 : goal.slice_bounds-push-end-3
-slice_bounds-push-end-3 c = let pre = c.requires in (rooms pre.i_lt_n.0 pre.i_lt_n.1).tokens-to
+slice_bounds-push-end-3 c = let pre = c.requires in (rooms pre.i_lt_n.0 pre.i_lt_n.1).tokens_to
 
 pub push-requires : goal.push-requires
 push-requires c =
@@ -71,4 +71,4 @@ push-requires c =
 pub returns : goal.returns
 returns c =
     let pre = c.requires in
-    pushes-at (rooms pre.i_lt_n.0 pre.i_lt_n.1) c.words-1.given.0 c.bytes-1.given.0 c.tokens-1.given.0 c.push.ensures
+    pushes_at (rooms pre.i_lt_n.0 pre.i_lt_n.1) c.words-1.given.0 c.bytes-1.given.0 c.tokens-1.given.0 c.push.ensures

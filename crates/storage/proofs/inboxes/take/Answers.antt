@@ -7,7 +7,7 @@ pub overflow_mul-p : goal.overflow_mul-p
 overflow_mul-p c = let pre = c.requires in (rooms pre.i_lt_n.0 pre.i_lt_n.1).cells
 
 pub overflow_add-p : goal.overflow_add-p
-overflow_add-p c = let pre = c.requires in (rooms pre.i_lt_n.0 pre.i_lt_n.1).before-places
+overflow_add-p c = let pre = c.requires in (rooms pre.i_lt_n.0 pre.i_lt_n.1).before_places
 
 pub overflow_mul-p-2 : goal.overflow_mul-p-2
 overflow_mul-p-2 c = let pre = c.requires in (rooms pre.i_lt_n.0 pre.i_lt_n.1).row
@@ -22,46 +22,46 @@ pub overflow_mul-t : goal.overflow_mul-t
 overflow_mul-t c = let pre = c.requires in (rooms pre.i_lt_n.0 pre.i_lt_n.1).row
 
 pub overflow_add-b : goal.overflow_add-b
-overflow_add-b c = let pre = c.requires in (rooms pre.i_lt_n.0 pre.i_lt_n.1).ring-end
+overflow_add-b c = let pre = c.requires in (rooms pre.i_lt_n.0 pre.i_lt_n.1).ring_end
 
 pub slice_bounds-take-count : goal.slice_bounds-take-count
-slice_bounds-take-count c = let pre = c.requires in (rooms pre.i_lt_n.0 pre.i_lt_n.1).ring-from
+slice_bounds-take-count c = let pre = c.requires in (rooms pre.i_lt_n.0 pre.i_lt_n.1).ring_from
 
 pub slice_bounds-take-start : goal.slice_bounds-take-start
-slice_bounds-take-start c = let pre = c.requires in (rooms pre.i_lt_n.0 pre.i_lt_n.1).ring-from
+slice_bounds-take-start c = let pre = c.requires in (rooms pre.i_lt_n.0 pre.i_lt_n.1).ring_from
 
 pub slice_bounds-take-end : goal.slice_bounds-take-end
-slice_bounds-take-end c = let pre = c.requires in (rooms pre.i_lt_n.0 pre.i_lt_n.1).ring-to
+slice_bounds-take-end c = let pre = c.requires in (rooms pre.i_lt_n.0 pre.i_lt_n.1).ring_to
 
 pub overflow_add-p-3 : goal.overflow_add-p-3
-overflow_add-p-3 c = let pre = c.requires in (rooms pre.i_lt_n.0 pre.i_lt_n.1).places-end
+overflow_add-p-3 c = let pre = c.requires in (rooms pre.i_lt_n.0 pre.i_lt_n.1).places_end
 
 pub offset_bounds-words-p : goal.offset_bounds-words-p
-offset_bounds-words-p c = let pre = c.requires in (rooms pre.i_lt_n.0 pre.i_lt_n.1).places-scaled
+offset_bounds-words-p c = let pre = c.requires in (rooms pre.i_lt_n.0 pre.i_lt_n.1).places_scaled
 
 pub slice_bounds-take-count-2 : goal.slice_bounds-take-count-2
-slice_bounds-take-count-2 c = let pre = c.requires in (rooms pre.i_lt_n.0 pre.i_lt_n.1).places-from
+slice_bounds-take-count-2 c = let pre = c.requires in (rooms pre.i_lt_n.0 pre.i_lt_n.1).places_from
 
 pub slice_bounds-take-start-2 : goal.slice_bounds-take-start-2
-slice_bounds-take-start-2 c = let pre = c.requires in (rooms pre.i_lt_n.0 pre.i_lt_n.1).places-from
+slice_bounds-take-start-2 c = let pre = c.requires in (rooms pre.i_lt_n.0 pre.i_lt_n.1).places_from
 
 pub slice_bounds-take-end-2 : goal.slice_bounds-take-end-2
-slice_bounds-take-end-2 c = let pre = c.requires in (rooms pre.i_lt_n.0 pre.i_lt_n.1).places-to
+slice_bounds-take-end-2 c = let pre = c.requires in (rooms pre.i_lt_n.0 pre.i_lt_n.1).places_to
 
 pub overflow_add-t : goal.overflow_add-t
-overflow_add-t c = let pre = c.requires in (rooms pre.i_lt_n.0 pre.i_lt_n.1).tokens-end
+overflow_add-t c = let pre = c.requires in (rooms pre.i_lt_n.0 pre.i_lt_n.1).tokens_end
 
 pub offset_bounds-tokens-t : goal.offset_bounds-tokens-t
-offset_bounds-tokens-t c = let pre = c.requires in (rooms pre.i_lt_n.0 pre.i_lt_n.1).tokens-scaled
+offset_bounds-tokens-t c = let pre = c.requires in (rooms pre.i_lt_n.0 pre.i_lt_n.1).tokens_scaled
 
 pub slice_bounds-take-count-3 : goal.slice_bounds-take-count-3
-slice_bounds-take-count-3 c = let pre = c.requires in (rooms pre.i_lt_n.0 pre.i_lt_n.1).tokens-from
+slice_bounds-take-count-3 c = let pre = c.requires in (rooms pre.i_lt_n.0 pre.i_lt_n.1).tokens_from
 
 pub slice_bounds-take-start-3 : goal.slice_bounds-take-start-3
-slice_bounds-take-start-3 c = let pre = c.requires in (rooms pre.i_lt_n.0 pre.i_lt_n.1).tokens-from
+slice_bounds-take-start-3 c = let pre = c.requires in (rooms pre.i_lt_n.0 pre.i_lt_n.1).tokens_from
 
 pub slice_bounds-take-end-3 : goal.slice_bounds-take-end-3
-slice_bounds-take-end-3 c = let pre = c.requires in (rooms pre.i_lt_n.0 pre.i_lt_n.1).tokens-to
+slice_bounds-take-end-3 c = let pre = c.requires in (rooms pre.i_lt_n.0 pre.i_lt_n.1).tokens_to
 
 pub take-requires : goal.take-requires
 take-requires c =
