@@ -85,7 +85,7 @@ fn drain(
     items: &mut [u32],
 ) -> Answer
     requires admitted { Admitted n c (lent words.old bytes.now tokens.now) (length wakes.old) (length releases.old) }
-    requires h_value { live_in n words.old h.0 ≡ true }
+    requires live { live_in n words.old h.0 ≡ true }
     ensures { Drains n c (lent words.old bytes.now tokens.now) (lent words.new bytes.now tokens.now) h.0 (policy_of policy (length items.old)) buf.old buf.new items.old items.new (lists wakes.old releases.old) (lists wakes.new releases.new) result }
 {
     let i = handles::slot_of(h);

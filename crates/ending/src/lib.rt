@@ -58,9 +58,9 @@ fn end(
     connection: Connection,
     done: Closing,
 ) -> Closing
-    requires i_lt_n { (i < n) × (8 + 16 * n ≤ length words.old) × (256 * n ≤ length tokens.now) × (c ≤ 65536) }
+    requires roomy { (i < n) × (8 + 16 * n ≤ length words.old) × (256 * n ≤ length tokens.now) × (c ≤ 65536) }
     requires fits { Fits c connection }
-    requires wakes_in_bounds { (done.wakes < length wakes.old) × (done.releases + 256 ≤ length releases.old) }
+    requires lists_room { (done.wakes < length wakes.old) × (done.releases + 256 ≤ length releases.old) }
     ensures { Ends n i generation connection words.old words.new tokens.now wakes.old wakes.new releases.old releases.new done result }
 {
     let peer_open = handles::is_open(words, n, connection.peer);
@@ -94,8 +94,8 @@ fn end_server(
     done: Closing,
 ) -> Closing
     requires serves { Serves n c words.old server.0 }
-    requires n_in_bounds { (8 + 16 * n ≤ length words.old) × (256 * n ≤ length tokens.now) × (c ≤ 65536) }
-    requires wakes_in_bounds { (done.wakes < length wakes.old) × (done.releases + 256 ≤ length releases.old) }
+    requires roomy { (8 + 16 * n ≤ length words.old) × (256 * n ≤ length tokens.now) × (c ≤ 65536) }
+    requires lists_room { (done.wakes < length wakes.old) × (done.releases + 256 ≤ length releases.old) }
     ensures { Ends n (slot_of server.0) (cell_at words.old (slot_of server.0)).generation (connection_in (state_of (cell_at words.old (slot_of server.0)))) words.old words.new tokens.now wakes.old wakes.new releases.old releases.new done result }
 {
     let i = handles::slot_of(server);
@@ -133,8 +133,8 @@ fn end_listener(
     listener: Listener,
 ) -> Answer
     requires admitted { Admitted n c (lent words.old bytes.now tokens.now) (length wakes.old) (length releases.old) }
-    requires h_value { live_in n words.old h.0 ≡ true }
-    requires h_value_2 { (state_of (cell_at words.old (slot_of h.0)) ≡ Listening listener) × (generation ≡ (cell_at words.old (slot_of h.0)).generation) }
+    requires live { live_in n words.old h.0 ≡ true }
+    requires listens { (state_of (cell_at words.old (slot_of h.0)) ≡ Listening listener) × (generation ≡ (cell_at words.old (slot_of h.0)).generation) }
     ensures { Runs (Call.Close h.0) n c (lent words.old bytes.now tokens.now) (lent words.new bytes.now tokens.now) (lists wakes.old releases.old) (lists wakes.new releases.new) result }
 {
     let i = handles::slot_of(h);

@@ -136,7 +136,7 @@ impl Inbox {
         items: &[u32],
     ) -> Pushed
         requires well { Well (length ring.old) places.old self }
-        requires ring_len_bound { (length ring.old ≤ 65536) × (length places.old ≡ 256) × (length tokens.old ≡ 256) }
+        requires rings { (length ring.old ≤ 65536) × (length places.old ≡ 256) × (length tokens.old ≡ 256) }
         requires may_push { MayPush (length ring.old) self buf.now items.now }
         ensures { Pushes ring.old ring.new places.old places.new tokens.old tokens.new buf.now items.now self result }
     {
@@ -173,7 +173,7 @@ impl Inbox {
         releases: &mut [u32],
     ) -> Taken
         requires well { Well (length ring.now) places.now self }
-        requires ring_len_bound { (length ring.now ≤ 65536) × (length places.now ≡ 256) × (length tokens.now ≡ 256) × (256 ≤ length releases.old) }
+        requires rings { (length ring.now ≤ 65536) × (length places.now ≡ 256) × (length tokens.now ≡ 256) × (256 ≤ length releases.old) }
         ensures { Takes ring.now places.now tokens.now buf.old buf.new (policy_of policy (length items.old)) items.old items.new releases.old releases.new self result }
     {
         let g = self.group(places);
@@ -219,8 +219,8 @@ impl Inbox {
 
     // The first `m` of the first `g` items to `items`, the others to `releases`.
     fn hand_over(self, tokens: &[u32], g: usize, m: usize, items: &mut [u32], releases: &mut [u32])
-        requires first_bound { (self.first < 256) × (length tokens.now ≡ 256) × (m ≤ g) × (g ≤ 256) }
-        requires m_in_bounds { (m ≤ length items.old) × (256 ≤ length releases.old) }
+        requires group_in { (self.first < 256) × (length tokens.now ≡ 256) × (m ≤ g) × (g ≤ 256) }
+        requires lists_room { (m ≤ length items.old) × (256 ≤ length releases.old) }
         ensures { Hands (queued tokens.now self.first g) m items.old items.new releases.old releases.new }
     {
         ring::read_u32(tokens, self.first, items, 0, m);
@@ -245,8 +245,8 @@ impl Inbox {
 
     // Drops all bytes of an inbox of `c`; all items go to `releases`, from `at` on.
     pub fn discard(self, c: usize, tokens: &[u32], releases: &mut [u32], at: usize) -> Discarded
-        requires head_lt_c { (self.head < c) × (count self ≤ c) × (c ≤ 65536) × (self.first < 256) × (self.items ≤ 256) }
-        requires tokens_len { (length tokens.now ≡ 256) × (at + self.items ≤ length releases.old) }
+        requires inbox_in { (self.head < c) × (count self ≤ c) × (c ≤ 65536) × (self.first < 256) × (self.items ≤ 256) }
+        requires lists_room { (length tokens.now ≡ 256) × (at + self.items ≤ length releases.old) }
         ensures { Discards c tokens.now releases.old releases.new at self result }
     {
         ring::read_u32(tokens, self.first, releases, at, self.items);

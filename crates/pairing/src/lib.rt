@@ -109,8 +109,8 @@ fn join(
     listener: Listener,
     j: usize,
 )
-    requires h_bound { (slot_of h.0 < n) × (l < n) × (j < n) × (n ≤ 1024) × (8 + 272 * n + n * n ≤ length words.old) }
-    requires j_bound { ((cell_at words.old j).generation < 4294967295) × (listener.head < n) × (listener.pending ≤ n) }
+    requires slots_in { (slot_of h.0 < n) × (l < n) × (j < n) × (n ≤ 1024) × (8 + 272 * n + n * n ≤ length words.old) }
+    requires numbers_fit { ((cell_at words.old j).generation < 4294967295) × (listener.head < n) × (listener.pending ≤ n) }
     ensures { words.new ≡ joined n words.old h.0 l generation listener j }
 {
     let own = storage::load(words, handles::slot_of(h)).generation;

@@ -98,7 +98,7 @@ fn send(
     items: &[u32],
 ) -> Answer
     requires admitted { Admitted n c (lent words.old bytes.old tokens.old) (length wakes.old) (length releases.now) }
-    requires p_value { open_in n words.old p.0 ≡ true }
+    requires peer_open { open_in n words.old p.0 ≡ true }
     ensures { Sends n c (lent words.old bytes.old tokens.old) (lent words.new bytes.new tokens.new) p.0 buf.now items.now (lists wakes.old releases.now) (lists wakes.new releases.now) result }
 {
     let j = handles::slot_of(p);

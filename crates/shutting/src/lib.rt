@@ -82,7 +82,7 @@ fn shut(
     write: bool,
 ) -> Answer
     requires admitted { Admitted n c (lent words.old bytes.now tokens.now) (length wakes.old) (length releases.old) }
-    requires h_value { live_in n words.old h.0 ≡ true }
+    requires live { live_in n words.old h.0 ≡ true }
     ensures { Shuts n c (lent words.old bytes.now tokens.now) (lent words.new bytes.now tokens.now) h.0 read write (lists wakes.old releases.old) (lists wakes.new releases.new) result }
 {
     let i = handles::slot_of(h);
@@ -137,8 +137,8 @@ fn end_own(
     read: bool,
     write: bool,
 ) -> usize
-    requires i_in_bounds { (8 + 16 * i + 16 ≤ length words.old) × (256 * i + 256 ≤ length tokens.now) × (c ≤ 65536) × (256 ≤ length releases.old) }
-    requires head_lt_c { (connection.inbox.head < c) × (count connection.inbox ≤ c) × (connection.inbox.first < 256) × (connection.inbox.items ≤ 256) }
+    requires roomy { (8 + 16 * i + 16 ≤ length words.old) × (256 * i + 256 ≤ length tokens.now) × (c ≤ 65536) × (256 ≤ length releases.old) }
+    requires inbox_in { (connection.inbox.head < c) × (count connection.inbox ≤ c) × (connection.inbox.first < 256) × (connection.inbox.items ≤ 256) }
     ensures { Ends c i generation connection read write words.old words.new tokens.now releases.old releases.new result }
 {
     let inbox = connection.inbox;
@@ -172,8 +172,8 @@ fn drop_queued(
     releases: &mut [u32],
     read: bool,
 ) -> Discarded
-    requires i_in_bounds { (256 * i + 256 ≤ length tokens.now) × (c ≤ 65536) × (256 ≤ length releases.old) }
-    requires head_lt_c { (inbox.head < c) × (count inbox ≤ c) × (inbox.first < 256) × (inbox.items ≤ 256) }
+    requires roomy { (256 * i + 256 ≤ length tokens.now) × (c ≤ 65536) × (256 ≤ length releases.old) }
+    requires inbox_in { (inbox.head < c) × (count inbox ≤ c) × (inbox.first < 256) × (inbox.items ≤ 256) }
     ensures { Drops c (part (tokens_base i) 256 tokens.now) releases.old releases.new read inbox result }
 {
     if !read {

@@ -29,7 +29,7 @@ pub fn push(
     buf: &[u8],
     items: &[u32],
 ) -> Pushed
-    requires i_lt_n { (i < n) × Roomy n c (lent words.old bytes.old tokens.old) }
+    requires roomy { (i < n) × Roomy n c (lent words.old bytes.old tokens.old) }
     requires well { Well c (part (places_base n i) 256 words.old) inbox }
     requires may_push { MayPush c inbox buf.now items.now }
     ensures { PushesAt n c i (lent words.old bytes.old tokens.old) (lent words.new bytes.new tokens.new) buf.now items.now inbox result }
@@ -59,7 +59,7 @@ pub fn take(
     items: &mut [u32],
     releases: &mut [u32],
 ) -> Taken
-    requires i_lt_n { (i < n) × Roomy n c (lent words.now bytes.now tokens.now) × (256 ≤ length releases.old) }
+    requires roomy { (i < n) × Roomy n c (lent words.now bytes.now tokens.now) × (256 ≤ length releases.old) }
     requires well { Well c (part (places_base n i) 256 words.now) inbox }
     ensures { Takes (part (ring_base c i) c bytes.now) (part (places_base n i) 256 words.now) (part (tokens_base i) 256 tokens.now) buf.old buf.new (policy_of policy (length items.old)) items.old items.new releases.old releases.new inbox result }
 {
@@ -85,8 +85,8 @@ pub fn discard(
     releases: &mut [u32],
     at: usize,
 ) -> Discarded
-    requires i_in_bounds { (256 * i + 256 ≤ length tokens.now) × (c ≤ 65536) × (inbox.head < c) × (count inbox ≤ c) × (inbox.first < 256) × (inbox.items ≤ 256) }
-    requires inbox_in_bounds { at + inbox.items ≤ length releases.old }
+    requires roomy { (256 * i + 256 ≤ length tokens.now) × (c ≤ 65536) × (inbox.head < c) × (count inbox ≤ c) × (inbox.first < 256) × (inbox.items ≤ 256) }
+    requires releases_room { at + inbox.items ≤ length releases.old }
     ensures { Discards c (part (tokens_base i) 256 tokens.now) releases.old releases.new at inbox result }
 {
     let t = 256 * i;

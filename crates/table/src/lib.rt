@@ -80,8 +80,8 @@ fn listening_checks(
 
 // A slot that is not connected.
 fn other_checks(words: &[u64], bytes: &[u8], n: usize, c: usize, i: usize) -> bool
-    requires i_lt_n { (i < n) × (n ≤ 1024) × (8 + 272 * n + n * n ≤ length words.now) × (c * n + 255 * n ≤ length bytes.now) }
-    requires i_nonzero { (cell_at words.now i).tag ≢ 4 }
+    requires roomy { (i < n) × (n ≤ 1024) × (8 + 272 * n + n * n ≤ length words.now) × (c * n + 255 * n ≤ length bytes.now) }
+    requires not_connected { (cell_at words.now i).tag ≢ 4 }
     ensures { result ≡ slot_checks n c words.now bytes.now i }
 {
     let cell = storage::load_cell(words, i);
@@ -102,8 +102,8 @@ fn other_checks(words: &[u64], bytes: &[u8], n: usize, c: usize, i: usize) -> bo
 
 // A slot that was not skipped: a connected one is not well. Of a closed slot no more than two words are read.
 fn slot_checks(words: &[u64], bytes: &[u8], n: usize, c: usize, i: usize) -> bool
-    requires i_lt_n { (i < n) × (n ≤ 1024) × (8 + 272 * n + n * n ≤ length words.now) × (c * n + 255 * n ≤ length bytes.now) }
-    requires i_value { (cell_at words.now i).tag ≡ 4 → slot_checks n c words.now bytes.now i ≡ false }
+    requires roomy { (i < n) × (n ≤ 1024) × (8 + 272 * n + n * n ≤ length words.now) × (c * n + 255 * n ≤ length bytes.now) }
+    requires bad_if_connected { (cell_at words.now i).tag ≡ 4 → slot_checks n c words.now bytes.now i ≡ false }
     ensures { result ≡ slot_checks n c words.now bytes.now i }
 {
     let b = 8 + 16 * i;

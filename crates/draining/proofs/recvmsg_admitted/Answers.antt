@@ -27,7 +27,7 @@ drain-requires c =
     let pre = c.requires in
     let f = c.is_live in
     let m = live_asked pre a.h.0 f.result f.ensures (ap not c.if-not-is_live.false) in
-    record { admitted = m.0; h_value = m.1 }
+    record { admitted = m.0; live = m.1 }
 
 pub returns : goal.returns
 returns c =

@@ -28,7 +28,7 @@ end_listener-requires c =
     let d = (ap not c.if-not-is_live.false) in
     let k = c.in-Listening.is in
     let z = listener_told a.n a.c (lent a.words.now a.bytes.now a.tokens.now) a.wakes.now a.releases.now a.h.0 v.result v.ensures (record { refusal = 0; flags = 0; value = 0; items = 0; wakes = 0; releases = 0 }) (known p) d i.result i.ensures s.result s.ensures c.in-Listening.listener (search k) in
-    record { admitted = p; h_value = z.0; h_value_2 = (z.1, z.2) }
+    record { admitted = p; live = z.0; listens = (z.1, z.2) }
 
 pub end-requires : goal.end-requires
 end-requires c =
@@ -38,7 +38,7 @@ end-requires c =
     let i = c.slot_of-i in
     let s = c.load-slot in
     let d = (ap not c.if-not-is_live.false) in
-    let k = c.in-Connected.is in record { i_lt_n = (socket_within a.n a.c (lent a.words.now a.bytes.now a.tokens.now) a.wakes.now a.releases.now a.h.0 v.result v.ensures (record { refusal = 0; flags = 0; value = 0; items = 0; wakes = 0; releases = 0 }) (known p) d i.result i.ensures s.result s.ensures c.in-Connected.connection (search k), slots_in p, p.tokens, p.small); fits = socket_fits a.n a.c (lent a.words.now a.bytes.now a.tokens.now) a.wakes.now a.releases.now a.h.0 v.result v.ensures (record { refusal = 0; flags = 0; value = 0; items = 0; wakes = 0; releases = 0 }) (known p) d i.result i.ensures s.result s.ensures c.in-Connected.connection (search k); wakes_in_bounds = lists_room p }
+    let k = c.in-Connected.is in record { roomy = (socket_within a.n a.c (lent a.words.now a.bytes.now a.tokens.now) a.wakes.now a.releases.now a.h.0 v.result v.ensures (record { refusal = 0; flags = 0; value = 0; items = 0; wakes = 0; releases = 0 }) (known p) d i.result i.ensures s.result s.ensures c.in-Connected.connection (search k), slots_in p, p.tokens, p.small); fits = socket_fits a.n a.c (lent a.words.now a.bytes.now a.tokens.now) a.wakes.now a.releases.now a.h.0 v.result v.ensures (record { refusal = 0; flags = 0; value = 0; items = 0; wakes = 0; releases = 0 }) (known p) d i.result i.ensures s.result s.ensures c.in-Connected.connection (search k); lists_room = lists_room p }
 
 pub returns-in-Closed : goal.returns-in-Closed
 returns-in-Closed c = search (closed_never, known)

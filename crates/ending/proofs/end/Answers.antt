@@ -3,13 +3,13 @@ use native.Mathlib.Omega.{arith}
 use Rattle.ending.proofs.end.Goals as goal
 
 pub offset_bounds-wakes-woken : goal.offset_bounds-wakes-woken
-offset_bounds-wakes-woken c = let p = c.requires in let g = c.well_formed in omega (arith, p.wakes_in_bounds.0, g.1.1.0)
+offset_bounds-wakes-woken c = let p = c.requires in let g = c.well_formed in omega (arith, p.lists_room.0, g.1.1.0)
 
 pub bounds-wakes-woken : goal.bounds-wakes-woken
-bounds-wakes-woken c = let p = c.requires in omega (arith, p.wakes_in_bounds.0)
+bounds-wakes-woken c = let p = c.requires in omega (arith, p.lists_room.0)
 
 pub overflow_add-result : goal.overflow_add-result
-overflow_add-result c = let p = c.requires in let g = c.well_formed in omega (arith, p.wakes_in_bounds.0, g.1.1.0)
+overflow_add-result c = let p = c.requires in let g = c.well_formed in omega (arith, p.lists_room.0, g.1.1.0)
 
 pub returns-then-peer_open : goal.returns-then-peer_open
 returns-then-peer_open c = search ends_woken

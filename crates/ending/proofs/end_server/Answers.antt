@@ -15,7 +15,7 @@ end-requires c =
     let s = c.load-slot in
     let k = c.in-Connected.is in
     let a = c.args in
-    let p = c.requires in record { i_lt_n = (server_within a.n a.c a.words.now a.server.0 i.result p.serves i.ensures s.result s.ensures c.in-Connected.connection (search k), p.n_in_bounds.0, p.n_in_bounds.1, p.n_in_bounds.2); fits = server_fits a.n a.c a.words.now a.server.0 i.result p.serves i.ensures s.result s.ensures c.in-Connected.connection (search k); wakes_in_bounds = p.wakes_in_bounds }
+    let p = c.requires in record { roomy = (server_within a.n a.c a.words.now a.server.0 i.result p.serves i.ensures s.result s.ensures c.in-Connected.connection (search k), p.roomy.0, p.roomy.1, p.roomy.2); fits = server_fits a.n a.c a.words.now a.server.0 i.result p.serves i.ensures s.result s.ensures c.in-Connected.connection (search k); lists_room = p.lists_room }
 
 pub returns : goal.returns
 returns c =

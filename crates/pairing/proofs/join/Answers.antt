@@ -8,7 +8,7 @@ pub pair-server-requires : goal.pair-server-requires
 pair-server-requires c =
     let p = c.args in
     let b = c.load-new in
-    pair_asks p.words.now p.j b.result b.ensures c.requires.j_bound.0 p.n p.h.0 p.l c.requires.h_bound
+    pair_asks p.words.now p.j b.result b.ensures c.requires.numbers_fit.0 p.n p.h.0 p.l c.requires.slots_in
 
 pub returns : goal.returns
 returns c = search all_joined

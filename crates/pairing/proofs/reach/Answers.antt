@@ -62,7 +62,7 @@ join-requires c =
     let m = join_asks p.n p.c s ls p.h.0 p.name.now (refused_with 0) (known c.requires.admitted) c.requires.caller l.result l.ensures
     c.if-n-l.false f.result f.ensures _ c.in-Listening.is c.if-listener.false j.result j.ensures
     c.if-j-n.false in
-    record { h_bound = m.0; j_bound = m.1 }
+    record { slots_in = m.0; numbers_fit = m.1 }
 
 pub handle-requires : goal.handle-requires
 handle-requires c =

@@ -9,7 +9,7 @@ load-slot-requires c =
     let a = c.args in
     let pre = c.requires in
     let j = c.slot_of-j in
-    peer_in pre.admitted a.p.0 pre.p_value j.result j.ensures
+    peer_in pre.admitted a.p.0 pre.peer_open j.result j.ensures
 
 pub returns-in_default : goal.returns-in_default
 returns-in_default c =
@@ -17,7 +17,7 @@ returns-in_default c =
     let pre = c.requires in
     let j = c.slot_of-j in
     let s = c.load-slot in
-    sends_damaged pre.admitted a.p.0 pre.p_value j.result j.ensures s.result s.ensures a.buf.now a.items.now (lists a.wakes.now a.releases.now) c.refused.result c.in_default.not-Connected c.refused.ensures
+    sends_damaged pre.admitted a.p.0 pre.peer_open j.result j.ensures s.result s.ensures a.buf.now a.items.now (lists a.wakes.now a.releases.now) c.refused.result c.in_default.not-Connected c.refused.ensures
 
 pub push_refusal-requires : goal.push_refusal-requires
 push_refusal-requires c =
@@ -26,7 +26,7 @@ push_refusal-requires c =
     let j = c.slot_of-j in
     let s = c.load-slot in
     let k = c.in-Connected.is in
-    push_fits pre.admitted a.p.0 pre.p_value j.result j.ensures s.result s.ensures c.in-Connected.peer (search k)
+    push_fits pre.admitted a.p.0 pre.peer_open j.result j.ensures s.result s.ensures c.in-Connected.peer (search k)
 
 pub push-pushed-requires : goal.push-pushed-requires
 push-pushed-requires c =
@@ -36,15 +36,15 @@ push-pushed-requires c =
     let s = c.load-slot in
     let k = c.in-Connected.is in
     let v = c.push_refusal in
-    let m = push_asked pre.admitted a.p.0 pre.p_value j.result j.ensures s.result s.ensures c.in-Connected.peer (search k) a.buf.now a.items.now v.result v.ensures (search c.in-Accepted.is) in
-    record { i_lt_n = m.0; well = m.1.0; may_push = m.1.1 }
+    let m = push_asked pre.admitted a.p.0 pre.peer_open j.result j.ensures s.result s.ensures c.in-Connected.peer (search k) a.buf.now a.items.now v.result v.ensures (search c.in-Accepted.is) in
+    record { roomy = m.0; well = m.1.0; may_push = m.1.1 }
 
 pub store_inbox-requires : goal.store_inbox-requires
 store_inbox-requires c =
     let a = c.args in
     let pre = c.requires in
     let j = c.slot_of-j in
-    search (peer_still pre.admitted a.p.0 pre.p_value j.result j.ensures, rules)
+    search (peer_still pre.admitted a.p.0 pre.peer_open j.result j.ensures, rules)
 
 pub bounds-wakes-0 : goal.bounds-wakes-0
 bounds-wakes-0 c = some_wake c.requires.admitted
@@ -57,7 +57,7 @@ returns-in-Refused c =
     let s = c.load-slot in
     let k = c.in-Connected.is in
     let v = c.push_refusal in
-    sends_refused pre.admitted a.p.0 pre.p_value j.result j.ensures s.result s.ensures c.in-Connected.peer (search k) a.buf.now a.items.now v.result v.ensures (lists a.wakes.now a.releases.now) c.refused-in-Refused.result c.in-Refused.no (search c.in-Refused.is) c.refused-in-Refused.ensures
+    sends_refused pre.admitted a.p.0 pre.peer_open j.result j.ensures s.result s.ensures c.in-Connected.peer (search k) a.buf.now a.items.now v.result v.ensures (lists a.wakes.now a.releases.now) c.refused-in-Refused.result c.in-Refused.no (search c.in-Refused.is) c.refused-in-Refused.ensures
 
 pub returns-in-Accepted : goal.returns-in-Accepted
 returns-in-Accepted c =
@@ -68,4 +68,4 @@ returns-in-Accepted c =
     let k = c.in-Connected.is in
     let v = c.push_refusal in
     let q = c.push-pushed in
-    sends_pushed pre.admitted a.p.0 pre.p_value j.result j.ensures s.result s.ensures c.in-Connected.peer (search k) a.buf.now a.items.now v.result v.ensures (search c.in-Accepted.is) (lists a.wakes.now a.releases.now) c.accepted.result q.result _ _ _ _ q.ensures (search rules) (search rules) (search rules) c.store_inbox.ensures c.accepted.ensures
+    sends_pushed pre.admitted a.p.0 pre.peer_open j.result j.ensures s.result s.ensures c.in-Connected.peer (search k) a.buf.now a.items.now v.result v.ensures (search c.in-Accepted.is) (lists a.wakes.now a.releases.now) c.accepted.result q.result _ _ _ _ q.ensures (search rules) (search rules) (search rules) c.store_inbox.ensures c.accepted.ensures

@@ -60,7 +60,7 @@ send-requires c =
     let k = c.in-Connected.is in
     let g = c.is_open in
     let m = send_asked pre a.h.0 f.result f.ensures a.buf.now a.items.now (ap not c.if-not-is_live.false) i.result i.ensures s.result s.ensures c.in-Connected.connection (search k) c.if-connection.false g.result g.ensures (ap not c.if-not-is_open.false) in
-    record { admitted = m.0; p_value = m.1 }
+    record { admitted = m.0; peer_open = m.1 }
 
 pub returns : goal.returns
 returns c =

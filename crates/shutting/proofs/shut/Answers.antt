@@ -11,7 +11,7 @@ load-slot-requires c =
     let a = c.args in
     let pre = c.requires in
     let i = c.slot_of-i in
-    own_in pre.admitted a.h.0 pre.h_value i.result i.ensures
+    own_in pre.admitted a.h.0 pre.live i.result i.ensures
 
 pub returns-in_default : goal.returns-in_default
 returns-in_default c =
@@ -19,7 +19,7 @@ returns-in_default c =
     let pre = c.requires in
     let i = c.slot_of-i in
     let s = c.load-slot in
-    shuts_apart pre.admitted a.h.0 pre.h_value i.result i.ensures s.result s.ensures a.read a.write (lists a.wakes.now a.releases.now) c.refused.result c.in_default.not-Connected c.refused.ensures
+    shuts_apart pre.admitted a.h.0 pre.live i.result i.ensures s.result s.ensures a.read a.write (lists a.wakes.now a.releases.now) c.refused.result c.in_default.not-Connected c.refused.ensures
 
 pub end_own-released-requires : goal.end_own-released-requires
 end_own-released-requires c =
@@ -28,8 +28,8 @@ end_own-released-requires c =
     let i = c.slot_of-i in
     let s = c.load-slot in
     let k = c.in-Connected.is in
-    let m = end_asked pre.admitted a.h.0 pre.h_value i.result i.ensures s.result s.ensures c.in-Connected.connection (search k) in
-    record { i_in_bounds = m.0; head_lt_c = m.1 }
+    let m = end_asked pre.admitted a.h.0 pre.live i.result i.ensures s.result s.ensures c.in-Connected.connection (search k) in
+    record { roomy = m.0; inbox_in = m.1 }
 
 pub bounds-wakes-0 : goal.bounds-wakes-0
 bounds-wakes-0 c = some_wake c.requires.admitted
@@ -43,7 +43,7 @@ returns-then-not-peer_open c =
     let k = c.in-Connected.is in
     let f = c.is_open-peer_open in
     let e = c.end_own-released in
-    shuts_alone pre.admitted a.h.0 pre.h_value i.result i.ensures s.result s.ensures c.in-Connected.connection (search k) f.result f.ensures a.read a.write _ _ _ e.result e.ensures a.wakes.now c.shut_down.result (ap not c.if-not-peer_open.true) c.shut_down.ensures
+    shuts_alone pre.admitted a.h.0 pre.live i.result i.ensures s.result s.ensures c.in-Connected.connection (search k) f.result f.ensures a.read a.write _ _ _ e.result e.ensures a.wakes.now c.shut_down.result (ap not c.if-not-peer_open.true) c.shut_down.ensures
 
 pub end_peer-requires : goal.end_peer-requires
 end_peer-requires c =
@@ -54,7 +54,7 @@ end_peer-requires c =
     let k = c.in-Connected.is in
     let f = c.is_open-peer_open in
     let e = c.end_own-released in
-    peer_still pre.admitted a.h.0 pre.h_value i.result i.ensures s.result s.ensures c.in-Connected.connection (search k) f.result f.ensures a.read a.write _ _ _ e.result e.ensures (ap not c.if-not-peer_open.false)
+    peer_still pre.admitted a.h.0 pre.live i.result i.ensures s.result s.ensures c.in-Connected.connection (search k) f.result f.ensures a.read a.write _ _ _ e.result e.ensures (ap not c.if-not-peer_open.false)
 
 pub bounds-wakes-1 : goal.bounds-wakes-1
 bounds-wakes-1 c = let p = two_wakes c.requires.admitted in search (p, rules)
@@ -69,4 +69,4 @@ returns c =
     let f = c.is_open-peer_open in
     let e = c.end_own-released in
     let p = c.end_peer in
-    shuts_both pre.admitted a.h.0 pre.h_value i.result i.ensures s.result s.ensures c.in-Connected.connection (search k) f.result f.ensures a.read a.write _ _ _ e.result e.ensures (ap not c.if-not-peer_open.false) _ a.wakes.now c.shut_down-2.result p.ensures c.shut_down-2.ensures
+    shuts_both pre.admitted a.h.0 pre.live i.result i.ensures s.result s.ensures c.in-Connected.connection (search k) f.result f.ensures a.read a.write _ _ _ e.result e.ensures (ap not c.if-not-peer_open.false) _ a.wakes.now c.shut_down-2.result p.ensures c.shut_down-2.ensures

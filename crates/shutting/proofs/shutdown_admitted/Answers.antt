@@ -15,7 +15,7 @@ shut-requires c =
     let pre = c.requires in
     let f = c.is_live in
     let m = live_asked pre a.h.0 f.result f.ensures (ap not c.if-not-is_live.false) in
-    record { admitted = m.0; h_value = m.1 }
+    record { admitted = m.0; live = m.1 }
 
 pub returns-in-Refused : goal.returns-in-Refused
 returns-in-Refused c = search (shutdown_refused, to_z-of_z)

@@ -6,7 +6,7 @@ use Rattle.table.proofs.slot_checks.Goals as goal
 
 pub returns-then-tag-eq4 : goal.returns-then-tag-eq4
 unfolding cell_at
-returns-then-tag-eq4 c = sym (c.requires.i_value c.if-tag-eq4.true)
+returns-then-tag-eq4 c = sym (c.requires.bad_if_connected c.if-tag-eq4.true)
 
 pub returns-then-tag-eq0 : goal.returns-then-tag-eq0
 returns-then-tag-eq0 c = search slot_closed

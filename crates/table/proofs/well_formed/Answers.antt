@@ -17,7 +17,7 @@ loop-i-init c =
     (r.inside, closed_pass _ _ _ _ 0 _ (all_yet _) r)
 
 pub slot_checks-requires : goal.slot_checks-requires
-slot_checks-requires c = record { i_lt_n = search rules; i_value = c.skip_well-i.ensures.stops _ c.if-i-n.true }
+slot_checks-requires c = record { roomy = search rules; bad_if_connected = c.skip_well-i.ensures.stops _ c.if-i-n.true }
 
 pub returns-then-not-slot_checks : goal.returns-then-not-slot_checks
 returns-then-not-slot_checks c =

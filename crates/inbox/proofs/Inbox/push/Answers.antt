@@ -29,5 +29,5 @@ returns c =
     let k = c.least-k in
     let n = c.queued in
     let w = c.wrapping_add_u64 in
-    pushes _ _ _ _ _ _ _ _ a.self k.result n.result room.result w.result pre.well pre.may_push pre.ring_len_bound.0 (search rules) pre.ring_len_bound.1 (search rules) pre.ring_len_bound.2 (search rules)
+    pushes _ _ _ _ _ _ _ _ a.self k.result n.result room.result w.result pre.well pre.may_push pre.rings.0 (search rules) pre.rings.1 (search rules) pre.rings.2 (search rules)
     room.ensures k.ensures n.ensures c.write_u8.ensures c.fill_u64.ensures c.write_u32.ensures w.ensures.value

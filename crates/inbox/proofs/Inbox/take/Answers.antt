@@ -49,5 +49,5 @@ returns c =
     let k = c.least-k in
     let m = c.handed-m in
     let f = c.flags in
-    takes _ _ _ _ _ _ _ _ _ a.policy a.self c.moved_on.result g.result r.result k.result m.result f.result pre.well pre.ring_len_bound.1 pre.ring_len_bound.2 pre.ring_len_bound.3
+    takes _ _ _ _ _ _ _ _ _ a.policy a.self c.moved_on.result g.result r.result k.result m.result f.result pre.well pre.rings.1 pre.rings.2 pre.rings.3
     g.ensures.0 g.ensures.1 r.ensures k.ensures m.ensures c.read_u8.ensures c.hand_over.ensures f.ensures c.moved_on.ensures
