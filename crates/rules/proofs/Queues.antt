@@ -350,10 +350,10 @@ module _ (t : Table) (q : Queues t) (h : ℕ) (o : is_open t h ≡ true) (gv : g
   out_z g a m = false≢true (sym (close_all-shut t hs g m) ∙ a)
 
   same_z : (g : ℕ) → is_open t g ≡ true → (Memᴰ g hs → ⊥) → at z (slot_of g) ≡ at t (slot_of g)
-  same_z g a n = close_all-at t hs g (λ s m e. n (List·Memᴰ·cast' (open_same t g s a (all_open s m) e) m))
+  same_z g a n = close_all-at t hs g (λ s m e. n (mem_cast (open_same t g s a (all_open s m) e) m))
     where
-      List·Memᴰ·cast' : {a b : ℕ} {l : List ℕ} → a ≡ b → Memᴰ b l → Memᴰ a l
-      List·Memᴰ·cast' e m = mathlib.Core.List.Memᴰ.cast e m
+      mem_cast : {a b : ℕ} {l : List ℕ} → a ≡ b → Memᴰ b l → Memᴰ a l
+      mem_cast e m = mathlib.Core.List.Memᴰ.cast e m
 
   state_z : (g : ℕ) → is_open t g ≡ true → (Memᴰ g hs → ⊥) → state_of z g ≡ state_of t g
   unfolding state_of
