@@ -13,29 +13,12 @@ import os
 import re
 import sys
 
+from respell import BOUND, WORD, files, read, without_comment
+
 DECLARED = re.compile(r"^\s*(?:(?:pub|abbrev|unfoldable|private)\s+)*([a-z_][\w'-]*(?:\s+[a-z_][\w'-]*)*)\s*:(?!:)", re.M)
 DEFINED = re.compile(r"^(?:(?:pub|abbrev|unfoldable)\s+)+([\w'-]+)\s*:", re.M)
-BOUND = re.compile(r"[({]([a-z][\w'-]*(?:\s+[a-z][\w'-]*)*)\s*:(?!:)")
 LET = re.compile(r"(?<![\w'-])let ([a-z][\w'-]*)\s*[:=]")
-WORD = re.compile(r"(?<![\w'-])[A-Za-z_][\w'-]*")
 STD = {"length", "take", "drop", "append", "map", "set", "sets", "get_or", "tab", "eqb", "leb", "ltb", "min", "replicate", "paste", "nil", "cons", "suc", "zero", "mem"}
-
-
-def files(ends, below="crates"):
-    for folder, dirs, names in os.walk(below):
-        dirs[:] = sorted(d for d in dirs if d not in ("out", ".git", "target"))
-        for f in sorted(names):
-            if f.endswith(ends):
-                yield os.path.join(folder, f)
-
-
-def read(path):
-    with open(path, encoding="utf-8") as f:
-        return f.read()
-
-
-def code(text):
-    return re.sub(r"--.*", "", text)
 
 
 def made(path):
@@ -50,7 +33,7 @@ def names():
     own, defined, taken = set(), set(STD), set()
     crates = set(os.listdir("crates"))
     for p in files((".antt",)):
-        t = code(read(p))
+        t = without_comment(read(p))
         # what another library declares keeps its name
         for m in USED.finditer(t):
             part = m.group(1).split(".")
@@ -81,7 +64,7 @@ def main(argv):
     to = {w: n for w, n in to.items() if w != n}
     clash = {}
     for p in list(files((".antt",))):
-        t = code(read(p))
+        t = without_comment(read(p))
         words = set(WORD.findall(t))
         for w in words & set(to):
             if to[w] in words:
