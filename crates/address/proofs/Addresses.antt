@@ -9,10 +9,9 @@ use lib.Dec.{eqb, ltb}
 use borrow.Rule.Slice.PartMut.{mid_of, put_mid}
 use lib.ListN.{length, take, drop, replicate, take-append-drop, length-take, length-drop, length-append}
 use lib.Seq.{sets, sets-eq, drop-drop, take-length}
+use Rattle.std.specs.Prelude.{Result, Ok, Err}
 use Rattle.words.specs.declared.Errno.{Errno}
 use Rattle.words.specs.declared.Errno.TheVariants.{EINVAL, EAFNOSUPPORT, ENAMETOOLONG, SHORT}
-use Rattle.words.specs.declared.Verdict.{Verdict}
-use Rattle.words.specs.declared.Answer.{Answer}
 use Rattle.laws.proofs.Lists.{mid_is, put_back}
 use Rattle.le.specs.Le.{le, bytes}
 use Rattle.utf8.specs.Syntax.{is_utf8}
@@ -39,12 +38,12 @@ named_good (b ∷ p) n e = rw e
 -- ── path_refusal ──
 
 module _ (a : List ℕ) where
-  pub under_two : length a < 2 → Verdict.Refused EINVAL ≡ refusal_in (address_of a)
+  pub under_two : length a < 2 → Err EINVAL ≡ refusal_in (address_of a)
   unfolding address_of refusal_in
   under_two h = rw (lt-ltb (length a) 2 h)
 
   module _ (h : 2 ≤ length a) (f : ℕ) (is : f ≡ le 2 a 0) where
-    pub other_family : (f ≡ 1 → ⊥) → Verdict.Refused EAFNOSUPPORT ≡ refusal_in (address_of a)
+    pub other_family : (f ≡ 1 → ⊥) → Err EAFNOSUPPORT ≡ refusal_in (address_of a)
     unfolding address_of refusal_in
     other_family e = rw (le-ltb (length a) 2 h, ne_eqb (le 2 a 0) 1 (λ q. e (is ∙ q)))
 
@@ -54,7 +53,7 @@ module _ (a : List ℕ) where
       unfolding address_of
       says = rw (le-ltb (length a) 2 h, eq-eqb (le 2 a 0) 1 (sym is ∙ unix))
 
-      pub no_path : e ≡ 2 → Verdict.Refused EINVAL ≡ refusal_in (address_of a)
+      pub no_path : e ≡ 2 → Err EINVAL ≡ refusal_in (address_of a)
       unfolding refusal_in
       no_path z = rw (says, named_empty (up_to_zero (drop 2 a)) (omega arith))
 
@@ -63,22 +62,22 @@ module _ (a : List ℕ) where
       part = let n : e - 2 ≡ length (up_to_zero (drop 2 a)) = omega arith in rw n (front (drop 2 a))
 
       module _ (b : Bool) (test : b ≡ is_utf8 (take (e - 2) (drop 2 a))) where
-        pub bad : not b ≡ true → Verdict.Refused EINVAL ≡ refusal_in (address_of a)
+        pub bad : not b ≡ true → Err EINVAL ≡ refusal_in (address_of a)
         unfolding refusal_in
         bad n = rw (says, named_bad (up_to_zero (drop 2 a)) (ap is_utf8 (sym part) ∙ sym test ∙ not-true b n))
 
-        pub fine : (e ≡ 2 → ⊥) → not b ≡ false → Verdict.Accepted ≡ refusal_in (address_of a)
+        pub fine : (e ≡ 2 → ⊥) → not b ≡ false → (Ok tt) ≡ refusal_in (address_of a)
         unfolding refusal_in
         fine z n = rw (says, named_good (up_to_zero (drop 2 a)) (λ q. z (omega arith)) (ap is_utf8 (sym part) ∙ sym test ∙ not-false b n))
 
 -- ── path_of ──
 
 -- a refused address shows an empty part
-pub none : (a : List ℕ) (v : Verdict) (x : Errno) → v ≡ refusal_in (address_of a) → v ≡ Verdict.Refused x → [] ≡ path_in (address_of a)
+pub none : (a : List ℕ) (v : Result Unit Errno) (x : Errno) → v ≡ refusal_in (address_of a) → v ≡ Err x → [] ≡ path_in (address_of a)
 unfolding refusal_in path_in
 none a v x p q = go (address_of a) (sym q ∙ p)
   where
-    go : (m : Address) → Verdict.Refused x ≡ refusal_in m → [] ≡ path_in m
+    go : (m : Address) → Err x ≡ refusal_in m → [] ≡ path_in m
     go (Address.path s) r = absurd (let z : ◌≡◌ {A = ℕ} 0 1 = cc in omega arith)
     go (Address.refused y) r = refl
 
@@ -87,27 +86,27 @@ record Shown (a : List ℕ) (m : Address) : Type 0 where
   long : 2 ≤ length a
   path : path_in m ≡ up_to_zero (drop 2 a)
 
-shown : (s : List ℕ) → Verdict.Accepted ≡ refusal_in (named s) → path_in (named s) ≡ s
+shown : (s : List ℕ) → (Ok tt) ≡ refusal_in (named s) → path_in (named s) ≡ s
 unfolding named refusal_in path_in
 shown [] r = refl
 shown (b ∷ s) r = go (is_utf8 (b ∷ s)) r
   where
-    go : (d : Bool) → Verdict.Accepted ≡ refusal_in (cond d (Address.path (b ∷ s)) (Address.refused EINVAL)) → path_in (cond d (Address.path (b ∷ s)) (Address.refused EINVAL)) ≡ b ∷ s
+    go : (d : Bool) → (Ok tt) ≡ refusal_in (cond d (Address.path (b ∷ s)) (Address.refused EINVAL)) → path_in (cond d (Address.path (b ∷ s)) (Address.refused EINVAL)) ≡ b ∷ s
     go true q = refl
     go false q = absurd (let z : ◌≡◌ {A = ℕ} 0 1 = cc in omega arith)
 
-accepted : (a : List ℕ) → Verdict.Accepted ≡ refusal_in (address_of a) → Shown a (address_of a)
+accepted : (a : List ℕ) → (Ok tt) ≡ refusal_in (address_of a) → Shown a (address_of a)
 unfolding address_of refusal_in path_in
 accepted a p = go (ltb (length a) 2) refl (eqb (le 2 a 0) 1) p
   where
     go : (b : Bool) → ltb (length a) 2 ≡ b → (d : Bool)
-        → Verdict.Accepted ≡ refusal_in (cond b (Address.refused EINVAL) (cond d (named (up_to_zero (drop 2 a))) (Address.refused EAFNOSUPPORT)))
+        → (Ok tt) ≡ refusal_in (cond b (Address.refused EINVAL) (cond d (named (up_to_zero (drop 2 a))) (Address.refused EAFNOSUPPORT)))
         → Shown a (cond b (Address.refused EINVAL) (cond d (named (up_to_zero (drop 2 a))) (Address.refused EAFNOSUPPORT)))
     go true e d r = absurd (let z : ◌≡◌ {A = ℕ} 0 1 = cc in omega arith)
     go false e true r = record { long = ltb-false (length a) 2 e; path = shown (up_to_zero (drop 2 a)) r }
     go false e false r = absurd (let z : ◌≡◌ {A = ℕ} 0 1 = cc in omega arith)
 
-module _ (a : List ℕ) (v : Verdict) (p : v ≡ refusal_in (address_of a)) (q : v ≡ Verdict.Accepted) where
+module _ (a : List ℕ) (v : Result Unit Errno) (p : v ≡ refusal_in (address_of a)) (q : v ≡ (Ok tt)) where
   pub has_family : 2 ≤ length a
   has_family = (accepted a (sym q ∙ p)).long
 
@@ -119,7 +118,7 @@ module _ (a : List ℕ) (v : Verdict) (p : v ≡ refusal_in (address_of a)) (q :
 -- "is empty exactly where refused"
 pub record Refused (m : Address) : Type 0 where
   pub why : Errno
-  pub is : refusal_in m ≡ Verdict.Refused why
+  pub is : refusal_in m ≡ Err why
 
 named_refused : (s : List ℕ) → path_in (named s) ≡ [] → Refused (named s)
 unfolding named refusal_in path_in
@@ -142,32 +141,32 @@ empty_refused a e = go (ltb (length a) 2) (eqb (le 2 a 0) 1) e
 
 -- ── len ──
 
-pub short : (a : List ℕ) → length a < 110 → Answer.Refused SHORT ≡ length_of a
+pub short : (a : List ℕ) → length a < 110 → Err SHORT ≡ length_of a
 unfolding length_of
 short a h = rw (lt-ltb (length a) 110 h)
 
-pub long : (a : List ℕ) (n : ℕ) → 110 ≤ length a → ZeroFrom (take 108 (drop 2 a)) 0 n → Answer.Is (2 + n + 1) ≡ length_of a
+pub long : (a : List ℕ) (n : ℕ) → 110 ≤ length a → ZeroFrom (take 108 (drop 2 a)) 0 n → Ok (2 + n + 1) ≡ length_of a
 unfolding length_of
 long a n h e = let p : n ≡ length (up_to_zero (take 108 (drop 2 a))) = omega arith in rw (le-ltb (length a) 110 h, p)
 
 -- ── new ──
 
 module _ (p a : List ℕ) where
-  refuses : (e : Errno) → new_of p a ≡ Verdict.Refused e → Wrote p a a (Verdict.Refused e)
+  refuses : (e : Errno) → new_of p a ≡ Err e → Wrote p a a (Err e)
   unfolding after_new
   refuses e q = record { answer = sym q; bytes = rw q }
 
-  pub no_room : length a < 110 → Wrote p a a (Verdict.Refused SHORT)
+  pub no_room : length a < 110 → Wrote p a a (Err SHORT)
   unfolding new_of
   no_room h = refuses SHORT (rw (lt-ltb (length a) 110 h))
 
   module _ (room : 110 ≤ length a) where
-    pub long_path : 108 ≤ length p → Wrote p a a (Verdict.Refused ENAMETOOLONG)
+    pub long_path : 108 ≤ length p → Wrote p a a (Err ENAMETOOLONG)
     unfolding new_of
     long_path h = refuses ENAMETOOLONG (rw (le-ltb (length a) 110 room, lt-ltb 107 (length p) (omega arith)))
 
     module _ (fits : length p < 108) (b : Bool) (test : b ≡ is_utf8 p) where
-      pub bad_path : not b ≡ true → Wrote p a a (Verdict.Refused EINVAL)
+      pub bad_path : not b ≡ true → Wrote p a a (Err EINVAL)
       unfolding new_of
       bad_path n = refuses EINVAL (rw (le-ltb (length a) 110 room, le-ltb 107 (length p) (omega arith), ← test, not-true b n))
 
@@ -215,11 +214,11 @@ module _ (p a : List ℕ) where
             let e : 2 + (length p + (108 - n)) ≡ 110 = omega arith in
             drop-drop (108 - n) (length p) d ∙ drop-drop (length p + (108 - n)) 2 a ∙ ap (λ (m : ℕ). drop m a) e
 
-        accepts : new_of p a ≡ Verdict.Accepted
+        accepts : new_of p a ≡ (Ok tt)
         unfolding new_of
         accepts = rw (le-ltb (length a) 110 room, le-ltb 107 (length p) (omega arith), ← test, not-false b good)
 
-        pub wrote : Wrote p a (put_mid (2 + n) (110 - (2 + n)) (put_mid 2 (length l₁ - 2) l₁ c₁) c₂) Verdict.Accepted
+        pub wrote : Wrote p a (put_mid (2 + n) (110 - (2 + n)) (put_mid 2 (length l₁ - 2) l₁ c₁) c₂) (Ok tt)
         unfolding after_new written
         wrote =
             record {

@@ -10,8 +10,8 @@ use lib.Dec.{eqb}
 use lib.ListN.{length, get_or, take, drop, set, replicate, length-append, length-replicate, length-drop, get_or-replicate, take-append-drop, get_or-append}
 use lib.Seq.{paste, take_all, take-append_seam, take-take, take-add, drop-drop, ext_get_or}
 use borrow.Author.Tests.{eq-eqb, not-true, not-false}
+use Rattle.std.specs.Prelude.{Ok, Err}
 use Rattle.ring.specs.Ring.{queued, whole}
-use Rattle.words.specs.declared.Verdict.{Verdict}
 use Rattle.words.specs.declared.Errno.TheVariants.{EINVAL, SHORT}
 use Rattle.rules.specs.Table as model
 use Rattle.rules.specs.Table.{at, vacant, fresh}
@@ -129,20 +129,20 @@ never : (n : ℕ) → suc n ≢ 0
 never n e = omega arith
 
 module _ (n c : ℕ) (w b t : List ℕ) (p : Bool) (ep : p ≡ in_range n c) where
-  pub make_range : not p ≡ true → Makes n c (lent w b t) (lent w b t) (Verdict.Refused EINVAL)
+  pub make_range : not p ≡ true → Makes n c (lent w b t) (lent w b t) (Err EINVAL)
   unfolding make_no
   make_range tp =
       let e : make_no n c (lent w b t) ≡ 2 = rw (sym ep ∙ not-true p tp) in
       record { answers = sym e; storage = rw e; shows = λ z. absurd (never 1 (sym e ∙ z)); well = λ z. absurd (never 1 (sym e ∙ z)) }
 
   module _ (tp : not p ≡ false) (q : Bool) (eq : q ≡ storage_fits n c (lent w b t)) where
-    pub make_short : not q ≡ true → Makes n c (lent w b t) (lent w b t) (Verdict.Refused SHORT)
+    pub make_short : not q ≡ true → Makes n c (lent w b t) (lent w b t) (Err SHORT)
     unfolding make_no
     make_short tq =
         let e : make_no n c (lent w b t) ≡ 18 = rw (sym ep ∙ not-false p tp, sym eq ∙ not-true q tq) in
         record { answers = sym e; storage = rw e; shows = λ z. absurd (never 17 (sym e ∙ z)); well = λ z. absurd (never 17 (sym e ∙ z)) }
 
-    pub make_done : (w' : List ℕ) → not q ≡ false → w' ≡ fresh_words n c w → Makes n c (lent w b t) (lent w' b t) Verdict.Accepted
+    pub make_done : (w' : List ℕ) → not q ≡ false → w' ≡ fresh_words n c w → Makes n c (lent w b t) (lent w' b t) (Ok tt)
     unfolding make_no
     make_done w' tq ew =
         let r : in_range n c ≡ true = sym ep ∙ not-false p tp in
