@@ -1,7 +1,7 @@
 -- The answers of the crates below as the numbers that C gets: document 01's number, and beside it 0 wherever that is not 0.
 use Rattle.words.specs.declared.Errno.{Errno}
 use Rattle.std.specs.Prelude.{◌≡◌, List, ℕ, ℤ, pos, length, take, drop, Option, Some, None, Result, Ok, Err}
-use Rattle.words.specs.Numbers.{number_of, refusal_of, refusal_of, answer_value}
+use Rattle.words.specs.Numbers.{number_of, refusal_of, answer_value}
 use Rattle.words.specs.declared.Errno.TheVariants.{EINVAL}
 use Rattle.address.specs.Address.{Address, address_of, path_in}
 use Rattle.abi.specs.declared.MsgHdr.{MsgHdr}

@@ -67,7 +67,7 @@ module _ (ds : List ℤ) (b : List ℕ) (c : ℕ) (cap : c ≡ capacity_of (leng
   space_held l a x b' r p q =
       let e = enough in
       let g = beyond (16 + up8 (4 * length ds)) x (sym q ∙ p) in
-      absurd (omega (arith, up8_is (4 * length ds)))
+      absurd (omega (arith, g.1, up8_is (4 * length ds)))
 
   module _ (m : Result CmsgHdr Errno) (h : CmsgHdr) (made : m ≡ rights_of (length ds)) (is : m ≡ Ok h) (small : length b < 2 ^ 63) (b₁ b₂ : List ℕ)
       (header : b₁ ≡ sets b 0 (header_bytes h)) (rest : b₂ ≡ sets b₁ 16 (descriptor_bytes ds)) where
@@ -99,8 +99,5 @@ module _ (ds : List ℤ) (b : List ℕ) (c : ℕ) (cap : c ≡ capacity_of (leng
       unfolding rights_space_of
       space_is = let v = value (16 + up8 (4 * length ds)) s (sym told ∙ asked) in omega (arith, up8_is (4 * length ds), up8_is (16 + 4 * length ds))
 
-      pub to_the_end : length b < s → Encoded ds b b₂ (Ok (length b))
-      to_the_end l = let e = space_is in done (length b) (omega arith)
-
-      pub padded : s ≤ length b → Encoded ds b b₂ (Ok s)
-      padded l = let e = space_is in done s (omega arith)
+      pub lesser : (r : ℕ) → r ≡ min s (length b) → Encoded ds b b₂ (Ok r)
+      lesser r l = let e = space_is in done r (omega arith)
