@@ -10,7 +10,7 @@ ghost use Rattle.inbox.specs.View.{dist, count, distances, front, nearest};
 ghost use Rattle.inbox.specs.Well.{rises, is_well, Well};
 ghost use Rattle.inbox.specs.Promise.{none, push_no, MayPush, Pushes, policy_of, handed_of, flags_for, Hands, move_on, Takes, Discards};
 
-use words::{Errno, Verdict};
+use words::Errno;
 
 // A sender gets ENOBUFS above the limit.
 pub const MAX_PENDING_ATTACHED: usize = 256;
@@ -107,23 +107,23 @@ impl Inbox {
     // ── push ──
 
     // What a push into an inbox of `c` is refused with.
-    pub fn push_refusal(self, c: usize, bytes: usize, items: usize) -> Verdict
+    pub fn push_refusal(self, c: usize, bytes: usize, items: usize) -> Result<(), Errno>
         requires { (count self ≤ c) × (self.items ≤ 256) }
         ensures { refusal_of result ≡ push_no c (count self) bytes self.items items }
     {
         if self.room(c) == 0 {
-            return Verdict::Refused(Errno::EAGAIN);
+            return Err(Errno::EAGAIN);
         }
         if items == 0 {
-            return Verdict::Accepted;
+            return Ok(());
         }
         if bytes == 0 {
-            return Verdict::Refused(Errno::EINVAL);
+            return Err(Errno::EINVAL);
         }
         if MAX_PENDING_ATTACHED - self.items < items {
-            return Verdict::Refused(Errno::ENOBUFS);
+            return Err(Errno::ENOBUFS);
         }
-        Verdict::Accepted
+        Ok(())
     }
 
     // Appends what fits of `buf`, and attaches the items to its first byte.

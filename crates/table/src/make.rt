@@ -3,7 +3,7 @@ ghost use Rattle.std.specs.Prelude.{◌+◌, ◌*◌, ◌≤◌, ◌≡◌, leng
 ghost use Rattle.storage.specs.Rows.{lent};
 ghost use Rattle.table.specs.Making.{fresh_words, Makes};
 
-use words::{Errno, Verdict};
+use words::Errno;
 
 // The header, and every slot closed.
 fn clear(words: &mut [u64], n: usize, c: usize)
@@ -16,15 +16,15 @@ fn clear(words: &mut [u64], n: usize, c: usize)
 }
 
 // A table of `n` slots of capacity `c`, all of them free.
-pub fn make(words: &mut [u64], bytes: &[u8], tokens: &[u32], n: usize, c: usize) -> Verdict
+pub fn make(words: &mut [u64], bytes: &[u8], tokens: &[u32], n: usize, c: usize) -> Result<(), Errno>
     ensures { Makes n c (lent words.old bytes.now tokens.now) (lent words.new bytes.now tokens.now) result }
 {
     if !crate::sizes::in_range(n, c) {
-        return Verdict::Refused(Errno::EINVAL);
+        return Err(Errno::EINVAL);
     }
     if !crate::sizes::storage_fits(words, bytes, tokens, n, c) {
-        return Verdict::Refused(Errno::SHORT);
+        return Err(Errno::SHORT);
     }
     clear(words, n, c);
-    Verdict::Accepted
+    Ok(())
 }

@@ -10,7 +10,7 @@ ghost use Rattle.promise.specs.Promise.{lists, Promise, PromiseFills};
 ghost use Rattle.unix_socket.specs.Least.{least_of};
 
 use promise::Answer;
-use words::{Errno, Handle, Verdict};
+use words::{Errno, Handle};
 
 // ── The table ──
 
@@ -52,7 +52,7 @@ pub fn sizes(n: usize, c: usize) -> Least
 }
 
 // A fresh table of `n` slots of capacity `c`, whatever stood in the storage.
-pub fn make(words: &mut [u64], bytes: &[u8], tokens: &[u32], n: usize, c: usize) -> Verdict
+pub fn make(words: &mut [u64], bytes: &[u8], tokens: &[u32], n: usize, c: usize) -> Result<(), Errno>
     ensures { Makes n c (lent words.old bytes.now tokens.now) (lent words.new bytes.now tokens.now) result }
 {
     table::make::make(words, bytes, tokens, n, c)
@@ -75,8 +75,8 @@ pub fn socket(
     ensures { Promise (Call.Socket domain ty protocol) n c (lent words.old bytes.now tokens.now) (lent words.new bytes.now tokens.now) (lists wakes.now releases.now) (lists wakes.now releases.now) result }
 {
     match table::admission(words, bytes, tokens, wakes, releases, n, c) {
-        Verdict::Refused(no) => promise::refused(no),
-        Verdict::Accepted => opening::socket_admitted(
+        Err(no) => promise::refused(no),
+        Ok(()) => opening::socket_admitted(
             words, bytes, tokens, wakes, releases, n, c, domain, ty, protocol,
         ),
     }
@@ -96,8 +96,8 @@ pub fn bind(
     ensures { Promise (Call.Bind h.0 name.now) n c (lent words.old bytes.old tokens.now) (lent words.new bytes.new tokens.now) (lists wakes.now releases.now) (lists wakes.now releases.now) result }
 {
     match table::admission(words, bytes, tokens, wakes, releases, n, c) {
-        Verdict::Refused(no) => promise::refused(no),
-        Verdict::Accepted => opening::bind_admitted(
+        Err(no) => promise::refused(no),
+        Ok(()) => opening::bind_admitted(
             words, bytes, tokens, wakes, releases, n, c, h, name,
         ),
     }
@@ -117,8 +117,8 @@ pub fn listen(
     ensures { Promise (Call.Listen h.0 backlog) n c (lent words.old bytes.now tokens.now) (lent words.new bytes.now tokens.now) (lists wakes.old releases.now) (lists wakes.new releases.now) result }
 {
     match table::admission(words, bytes, tokens, wakes, releases, n, c) {
-        Verdict::Refused(no) => promise::refused(no),
-        Verdict::Accepted => accepting::listen_admitted(
+        Err(no) => promise::refused(no),
+        Ok(()) => accepting::listen_admitted(
             words, bytes, tokens, wakes, releases, n, c, h, backlog,
         ),
     }
@@ -137,8 +137,8 @@ pub fn accept(
     ensures { Promise (Call.Accept h.0) n c (lent words.old bytes.now tokens.now) (lent words.new bytes.now tokens.now) (lists wakes.old releases.now) (lists wakes.new releases.now) result }
 {
     match table::admission(words, bytes, tokens, wakes, releases, n, c) {
-        Verdict::Refused(no) => promise::refused(no),
-        Verdict::Accepted => accepting::accept_admitted(
+        Err(no) => promise::refused(no),
+        Ok(()) => accepting::accept_admitted(
             words, bytes, tokens, wakes, releases, n, c, h,
         ),
     }
@@ -158,8 +158,8 @@ pub fn connect(
     ensures { Promise (Call.Connect h.0 name.now) n c (lent words.old bytes.now tokens.now) (lent words.new bytes.now tokens.now) (lists wakes.old releases.now) (lists wakes.new releases.now) result }
 {
     match table::admission(words, bytes, tokens, wakes, releases, n, c) {
-        Verdict::Refused(no) => promise::refused(no),
-        Verdict::Accepted => pairing::connect_admitted(
+        Err(no) => promise::refused(no),
+        Ok(()) => pairing::connect_admitted(
             words, bytes, tokens, wakes, releases, n, c, h, name,
         ),
     }
@@ -180,8 +180,8 @@ pub fn read(
     ensures promise_fills { PromiseFills (Call.Read h.0 (length buf.old)) n c (lent words.old bytes.now tokens.now) (lists wakes.old releases.old) buf.old buf.new [] [] }
 {
     match table::admission(words, bytes, tokens, wakes, releases, n, c) {
-        Verdict::Refused(no) => promise::refused(no),
-        Verdict::Accepted => draining::read_admitted(
+        Err(no) => promise::refused(no),
+        Ok(()) => draining::read_admitted(
             words, bytes, tokens, wakes, releases, n, c, h, buf,
         ),
     }
@@ -203,8 +203,8 @@ pub fn recvmsg(
     ensures promise_fills { PromiseFills (Call.Recvmsg h.0 (length buf.old) (length items.old)) n c (lent words.old bytes.now tokens.now) (lists wakes.old releases.old) buf.old buf.new items.old items.new }
 {
     match table::admission(words, bytes, tokens, wakes, releases, n, c) {
-        Verdict::Refused(no) => promise::refused(no),
-        Verdict::Accepted => draining::recvmsg_admitted(
+        Err(no) => promise::refused(no),
+        Ok(()) => draining::recvmsg_admitted(
             words, bytes, tokens, wakes, releases, n, c, h, buf, items,
         ),
     }
@@ -224,8 +224,8 @@ pub fn write(
     ensures { Promise (Call.Write h.0 buf.now) n c (lent words.old bytes.old tokens.old) (lent words.new bytes.new tokens.new) (lists wakes.old releases.now) (lists wakes.new releases.now) result }
 {
     match table::admission(words, bytes, tokens, wakes, releases, n, c) {
-        Verdict::Refused(no) => promise::refused(no),
-        Verdict::Accepted => sending::write_admitted(
+        Err(no) => promise::refused(no),
+        Ok(()) => sending::write_admitted(
             words, bytes, tokens, wakes, releases, n, c, h, buf,
         ),
     }
@@ -246,8 +246,8 @@ pub fn sendmsg(
     ensures { Promise (Call.Sendmsg h.0 buf.now items.now) n c (lent words.old bytes.old tokens.old) (lent words.new bytes.new tokens.new) (lists wakes.old releases.now) (lists wakes.new releases.now) result }
 {
     match table::admission(words, bytes, tokens, wakes, releases, n, c) {
-        Verdict::Refused(no) => promise::refused(no),
-        Verdict::Accepted => sending::sendmsg_admitted(
+        Err(no) => promise::refused(no),
+        Ok(()) => sending::sendmsg_admitted(
             words, bytes, tokens, wakes, releases, n, c, h, buf, items,
         ),
     }
@@ -267,8 +267,8 @@ pub fn shutdown(
     ensures { Promise (Call.Shutdown h.0 how) n c (lent words.old bytes.now tokens.now) (lent words.new bytes.now tokens.now) (lists wakes.old releases.old) (lists wakes.new releases.new) result }
 {
     match table::admission(words, bytes, tokens, wakes, releases, n, c) {
-        Verdict::Refused(no) => promise::refused(no),
-        Verdict::Accepted => shutting::shutdown_admitted(
+        Err(no) => promise::refused(no),
+        Ok(()) => shutting::shutdown_admitted(
             words, bytes, tokens, wakes, releases, n, c, h, how,
         ),
     }
@@ -287,8 +287,8 @@ pub fn close(
     ensures { Promise (Call.Close h.0) n c (lent words.old bytes.now tokens.now) (lent words.new bytes.now tokens.now) (lists wakes.old releases.old) (lists wakes.new releases.new) result }
 {
     match table::admission(words, bytes, tokens, wakes, releases, n, c) {
-        Verdict::Refused(no) => promise::refused(no),
-        Verdict::Accepted => ending::close_admitted(words, bytes, tokens, wakes, releases, n, c, h),
+        Err(no) => promise::refused(no),
+        Ok(()) => ending::close_admitted(words, bytes, tokens, wakes, releases, n, c, h),
     }
 }
 
@@ -305,8 +305,8 @@ pub fn readiness(
     ensures { Promise (Call.Readiness h.0) n c (lent words.now bytes.now tokens.now) (lent words.now bytes.now tokens.now) (lists wakes.now releases.now) (lists wakes.now releases.now) result }
 {
     match table::admission(words, bytes, tokens, wakes, releases, n, c) {
-        Verdict::Refused(no) => promise::refused(no),
-        Verdict::Accepted => readying::readiness_admitted(
+        Err(no) => promise::refused(no),
+        Ok(()) => readying::readiness_admitted(
             words, bytes, tokens, wakes, releases, n, c, h,
         ),
     }
