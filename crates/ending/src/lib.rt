@@ -6,6 +6,7 @@ ghost use Rattle.rules.specs.Outcome.{Call};
 ghost use Rattle.storage.specs.Rows.{lent};
 ghost use Rattle.table.specs.Admission.{Admitted};
 ghost use Rattle.promise.specs.Answers.{released_with};
+ghost use Rattle.promise.specs.Answers.{told};
 ghost use Rattle.promise.specs.Promise.{lists, Runs};
 ghost use Rattle.rules.specs.Table.{slot_of};
 ghost use Rattle.storage.specs.Cells.{cell_at, state_of, store_at, cell_of};
@@ -13,7 +14,7 @@ ghost use Rattle.storage.specs.Finding.{live_in};
 ghost use Rattle.storage.specs.declared.State.TheVariants.{Closed, Listening};
 ghost use Rattle.ending.specs.Leaving.{Ends, Fits, Serves, connection_in};
 
-use promise::Answer;
+use promise::Accepted;
 use storage::{Connection, Listener, Slot, State, handles, inboxes, queues};
 use words::{Errno, Handle};
 
@@ -24,7 +25,7 @@ struct Closing {
     releases: usize,
 }
 
-fn closed(done: Closing) -> Answer
+fn closed(done: Closing) -> Result<Accepted, Errno>
     ensures { result ≡ released_with done.wakes done.releases }
 {
     Answer {
@@ -131,11 +132,11 @@ fn end_listener(
     h: Handle,
     generation: u64,
     listener: Listener,
-) -> Answer
+) -> Result<Accepted, Errno>
     requires admitted { Admitted n c (lent words.old bytes.now tokens.now) (length wakes.old) (length releases.old) }
     requires live { live_in n words.old h.0 ≡ true }
     requires listens { (state_of (cell_at words.old (slot_of h.0)) ≡ Listening listener) × (generation ≡ (cell_at words.old (slot_of h.0)).generation) }
-    ensures { Runs (Call.Close h.0) n c (lent words.old bytes.now tokens.now) (lent words.new bytes.now tokens.now) (lists wakes.old releases.old) (lists wakes.new releases.new) result }
+    ensures { Runs (Call.Close h.0) n c (lent words.old bytes.now tokens.now) (lent words.new bytes.now tokens.now) (lists wakes.old releases.old) (lists wakes.new releases.new) (told result) }
 {
     let i = handles::slot_of(h);
     leave(words, i, generation);
@@ -162,12 +163,12 @@ pub fn close_admitted(
     n: usize,
     c: usize,
     h: Handle,
-) -> Answer
+) -> Result<Accepted, Errno>
     requires { Admitted n c (lent words.old bytes.now tokens.now) (length wakes.old) (length releases.old) }
-    ensures { Runs (Call.Close h.0) n c (lent words.old bytes.now tokens.now) (lent words.new bytes.now tokens.now) (lists wakes.old releases.old) (lists wakes.new releases.new) result }
+    ensures { Runs (Call.Close h.0) n c (lent words.old bytes.now tokens.now) (lent words.new bytes.now tokens.now) (lists wakes.old releases.old) (lists wakes.new releases.new) (told result) }
 {
     if !handles::is_live(words, n, h) {
-        return promise::refused(Errno::EBADF);
+        return Err(Errno::EBADF);
     }
     let i = handles::slot_of(h);
     let slot = storage::load(words, i);
@@ -175,15 +176,15 @@ pub fn close_admitted(
     let state = slot.state;
     match state {
         // no live socket is closed
-        State::Closed => promise::refused(Errno::DAMAGED),
+        State::Closed => Err(Errno::DAMAGED),
         State::Unbound => {
             leave(words, i, generation);
-            promise::accepted(0, 0)
+            Ok(Accepted::new(0, 0))
         }
         State::Bound(_) => {
             leave(words, i, generation);
             wakes[0] = 0;
-            promise::accepted(0, 1)
+            Ok(Accepted::new(0, 1))
         }
         State::Listening(listener) => end_listener(
             words, bytes, tokens, wakes, releases, n, c, h, generation, listener,

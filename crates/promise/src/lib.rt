@@ -2,7 +2,7 @@
 #![tactic(auto)]
 
 ghost use Rattle.std.specs.Prelude.{◌≡◌, Ok};
-ghost use Rattle.promise.specs.Answers.{told, accepted_with};
+ghost use Rattle.promise.specs.Answers.{told, accepted_with, released_with};
 
 use words::Errno;
 
@@ -40,6 +40,16 @@ impl Accepted {
             items: 0,
             wakes: wakes as u64,
             releases: 0,
+        }
+    }
+
+    // Of a close and of a shutdown: items are released.
+    pub fn releasing(wakes: usize, releases: usize) -> Accepted
+        ensures { told (Ok result) ≡ released_with wakes releases }
+    {
+        Accepted {
+            releases: releases as u64,
+            ..Accepted::new(0, wakes)
         }
     }
 }

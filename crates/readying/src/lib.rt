@@ -5,10 +5,11 @@ ghost use Rattle.std.specs.Prelude.{◌≡◌, ◌+◌, ◌*◌, ◌≤◌, leng
 ghost use Rattle.rules.specs.Outcome.{Call};
 ghost use Rattle.storage.specs.Rows.{lent};
 ghost use Rattle.table.specs.Admission.{Admitted};
+ghost use Rattle.promise.specs.Answers.{told};
 ghost use Rattle.promise.specs.Promise.{lists, Runs};
 ghost use Rattle.readying.specs.Parts.{readable_of, room_in, writable_in, ready_in};
 
-use promise::Answer;
+use promise::Accepted;
 use storage::{Connection, State, handles};
 use words::{Errno, Handle};
 
@@ -71,26 +72,26 @@ pub fn readiness_admitted(
     n: usize,
     c: usize,
     h: Handle,
-) -> Answer
+) -> Result<Accepted, Errno>
     requires { Admitted n c (lent words.now bytes.now tokens.now) (length wakes.now) (length releases.now) }
-    ensures { Runs (Call.Readiness h.0) n c (lent words.now bytes.now tokens.now) (lent words.now bytes.now tokens.now) (lists wakes.now releases.now) (lists wakes.now releases.now) result }
+    ensures { Runs (Call.Readiness h.0) n c (lent words.now bytes.now tokens.now) (lent words.now bytes.now tokens.now) (lists wakes.now releases.now) (lists wakes.now releases.now) (told result) }
 {
     if !handles::is_live(words, n, h) {
-        return promise::refused(Errno::EBADF);
+        return Err(Errno::EBADF);
     }
     let slot = storage::load(words, handles::slot_of(h));
     let state = slot.state;
     match state {
         // no live socket is closed
-        State::Closed => promise::refused(Errno::DAMAGED),
-        State::Unbound => promise::accepted(0, 0),
-        State::Bound(_) => promise::accepted(0, 0),
+        State::Closed => Err(Errno::DAMAGED),
+        State::Unbound => Ok(Accepted::new(0, 0)),
+        State::Bound(_) => Ok(Accepted::new(0, 0)),
         State::Listening(listener) => {
             if listener.pending == 0 {
-                return promise::accepted(0, 0);
+                return Ok(Accepted::new(0, 0));
             }
-            promise::accepted(1, 0)
+            Ok(Accepted::new(1, 0))
         }
-        State::Connected(connection) => promise::accepted(ready(words, n, c, connection), 0),
+        State::Connected(connection) => Ok(Accepted::new(ready(words, n, c, connection), 0)),
     }
 }

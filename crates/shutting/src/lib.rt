@@ -12,12 +12,13 @@ ghost use Rattle.storage.specs.Finding.{live_in};
 ghost use Rattle.storage.specs.declared.State.TheVariants.{Connected};
 ghost use Rattle.table.specs.Admission.{Admitted};
 ghost use Rattle.promise.specs.Answers.{released_with};
+ghost use Rattle.promise.specs.Answers.{told};
 ghost use Rattle.promise.specs.Promise.{lists, Runs};
 ghost use Rattle.shutting.specs.Parts.{reads_of, writes_of, ended_with, Drops, Ends, Follows, Shuts};
 
 use abi::{How, ShutdownHow};
 use inbox::{Discarded, Inbox};
-use promise::Answer;
+use promise::Accepted;
 use storage::{Connection, Slot, State, handles, inboxes};
 use words::{Errno, Handle};
 
@@ -31,15 +32,15 @@ pub fn shutdown_admitted(
     c: usize,
     h: Handle,
     how: i32,
-) -> Answer
+) -> Result<Accepted, Errno>
     requires { Admitted n c (lent words.old bytes.now tokens.now) (length wakes.old) (length releases.old) }
-    ensures { Runs (Call.Shutdown h.0 how) n c (lent words.old bytes.now tokens.now) (lent words.new bytes.now tokens.now) (lists wakes.old releases.old) (lists wakes.new releases.new) result }
+    ensures { Runs (Call.Shutdown h.0 how) n c (lent words.old bytes.now tokens.now) (lent words.new bytes.now tokens.now) (lists wakes.old releases.old) (lists wakes.new releases.new) (told result) }
 {
     if !handles::is_live(words, n, h) {
-        return promise::refused(Errno::EBADF);
+        return Err(Errno::EBADF);
     }
     match ShutdownHow::try_from(how) {
-        How::Refused(no) => promise::refused(no),
+        How::Refused(no) => Err(no),
         How::Is(ends) => {
             let read = reads(ends);
             let write = writes(ends);
@@ -80,16 +81,16 @@ fn shut(
     h: Handle,
     read: bool,
     write: bool,
-) -> Answer
+) -> Result<Accepted, Errno>
     requires admitted { Admitted n c (lent words.old bytes.now tokens.now) (length wakes.old) (length releases.old) }
     requires live { live_in n words.old h.0 ≡ true }
-    ensures { Shuts n c (lent words.old bytes.now tokens.now) (lent words.new bytes.now tokens.now) h.0 read write (lists wakes.old releases.old) (lists wakes.new releases.new) result }
+    ensures { Shuts n c (lent words.old bytes.now tokens.now) (lent words.new bytes.now tokens.now) h.0 read write (lists wakes.old releases.old) (lists wakes.new releases.new) (told result) }
 {
     let i = handles::slot_of(h);
     let slot = storage::load(words, i);
     let state = slot.state;
     let State::Connected(connection) = state else {
-        return promise::refused(Errno::ENOTCONN);
+        return Err(Errno::ENOTCONN);
     };
     let peer_open = handles::is_open(words, n, connection.peer);
     let released = end_own(
@@ -112,7 +113,7 @@ fn shut(
     shut_down(2, released)
 }
 
-fn shut_down(wakes: u64, released: usize) -> Answer
+fn shut_down(wakes: u64, released: usize) -> Result<Accepted, Errno>
     ensures { result ≡ released_with wakes released }
 {
     Answer {

@@ -37,5 +37,5 @@ returns-else-i-n c =
     let s = c.load-generation in
     let f = c.ranges in
     socket_made a.n a.c (lent a.words.now a.bytes.now a.tokens.now) (lists a.wakes.now a.releases.now) a.domain a.ty a.protocol _ _ _ v.result v.ensures
-    (to_z-of_z f.domain) (to_z-of_z f.ty) (to_z-of_z f.protocol) c.accepted.result (known c.requires) i.result s.result.generation _ c.handle.result.0
-    (search c.in-Accepted.is) i.ensures c.if-i-n.false (ap (λ (x : Slot). x.generation) s.ensures) c.store.ensures c.handle.ensures c.accepted.ensures
+    (to_z-of_z f.domain) (to_z-of_z f.ty) (to_z-of_z f.protocol) _ (known c.requires) i.result s.result.generation _ c.handle.result.0
+    (search c.in-Accepted.is) i.ensures c.if-i-n.false (ap (λ (x : Slot). x.generation) s.ensures) c.store.ensures c.handle.ensures c.new.ensures

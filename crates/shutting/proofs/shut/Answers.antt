@@ -1,3 +1,4 @@
+use mathlib.Core.Path.{refl}
 use borrow.Author.Rules.{rules}
 use Rattle.promise.specs.Promise.{lists}
 use Rattle.promise.proofs.Asked.{some_wake, own_in}
@@ -19,7 +20,7 @@ returns-in_default c =
     let pre = c.requires in
     let i = c.slot_of-i in
     let s = c.load-slot in
-    shuts_apart pre.admitted a.h.0 pre.live i.result i.ensures s.result s.ensures a.read a.write (lists a.wakes.now a.releases.now) c.refused.result c.in_default.not-Connected c.refused.ensures
+    shuts_apart pre.admitted a.h.0 pre.live i.result i.ensures s.result s.ensures a.read a.write (lists a.wakes.now a.releases.now) _ c.in_default.not-Connected refl
 
 pub end_own-released-requires : goal.end_own-released-requires
 end_own-released-requires c =
