@@ -71,13 +71,6 @@ module _ (c : ℕ) (tokens rl : List ℕ) (q : Inbox) where
   all_dropped true rl' r e d = record { inbox_is = d.numbers; releases_it = d.releases_it; released_are = d.released_are }
   all_dropped false rl' r e d = absurd (true≢false e)
 
-pub ends_stored : (w w' : List ℕ) (i g : ℕ) (k : Connection) (q : Inbox) (x y a b : Bool) → a ≡ k.inbox_closed || x → b ≡ k.outbox_closed || y
-    → w' ≡ store_at w i (cell_of g (Connected (record { peer = k.peer; inbox = q; inbox_closed = a; outbox_closed = b; waits = k.waits; place = k.place })))
-    → w' ≡ store_at w i (cell_of g (Connected (ended_with k q x y)))
-ends_stored w w' i g k q x y a b ea eb e =
-    e
-    ∙ ap₂ (λ (u v : Bool). store_at w i (cell_of g (Connected (record { peer = k.peer; inbox = q; inbox_closed = u; outbox_closed = v; waits = k.waits; place = k.place })))) ea eb
-
 pub own_ended : (c i g : ℕ) (k : Connection) (rd wr : Bool) (w w' t rl rl' : List ℕ) (d : Discarded) → Drops c (part (tokens_base i) 256 t) rl rl' rd k.inbox d
     → w' ≡ store_at w i (cell_of g (Connected (ended_with k d.inbox rd wr))) → Ends c i g k rd wr w w' t rl rl' d.released
 own_ended c i g k rd wr w w' t rl rl' d x e =
