@@ -8,6 +8,9 @@ use native.Mathlib.Nat.{not-suc-le-zero}
 use native.Mathlib.Decide.{dec_lt, ℕ_discrete as dec_eq}
 use native.Mathlib.Omega.{arith}
 use lib.Dec.{eqb, ltb}
+use Rattle.std.specs.Prelude.{Option, Some, None}
+use Rattle.std.specs.Option.{MatchOption}
+use Rattle.std.proofs.lemmas.Option.{cond_some, none-some}
 use lib.ListN.{length, take, drop, get_or}
 use lib.Seq.{take-take, take_all}
 use borrow.Author.Tests.{lt-ltb, le-ltb, ltb-true, eq-eqb, ne_eqb, not-true, not-false}
@@ -17,7 +20,7 @@ use Rattle.rules.specs.Table.{slot_of, handle, same}
 use Rattle.rules.proofs.Wf.{same_refl, same_eq}
 use Rattle.storage.specs.Layout.{part, cell_base}
 use Rattle.storage.specs.Cells.{cell_at, state_of, connection_of}
-use Rattle.storage.specs.Finding.{least, occupied, waiting, open_in, live_in, free_cell, named, holds_cell}
+use Rattle.storage.specs.Finding.{least, lowest, occupied, waiting, open_in, live_in, free_cell, named, holds_cell}
 use Rattle.storage.specs.declared.Cell.{Cell}
 use Rattle.storage.specs.declared.State.{State}
 use Rattle.storage.specs.declared.State.TheVariants.{Closed, Unbound, Connected}
@@ -39,25 +42,39 @@ unfolding least
 least_none zero p f = refl
 least_none (suc n) p f = rw (f zero (omega arith)) (ap suc (least_none n (λ k. p (suc k)) (λ j l. f (suc j) (omega arith))))
 
--- a search that has come to i: none before it
-pub record NoneBefore (p : ℕ → Bool) (i : ℕ) : Type 0 where
-  pub none : (j : ℕ) → j < i → p j ≡ false
-
-pub none_yet : (p : ℕ → Bool) → NoneBefore p 0
-none_yet p = record { none = λ j h. absurd (not-suc-le-zero h) }
-
-pub none_here : (p : ℕ → Bool) (i : ℕ) → NoneBefore p i → p i ≡ false → NoneBefore p (i + 1)
-none_here p i b e = record { none = λ j h. go j h (dec_lt j i) }
+pub least-below : (n : ℕ) (p : ℕ → Bool) → least n p ≤ n
+unfolding least
+least-below zero p = omega arith
+least-below (suc n) p = go (p zero) (least-below n (λ k. p (suc k)))
   where
-    go : (j : ℕ) → j < i + 1 → Dec (j < i) → p j ≡ false
-    go j h (yes l) = b.none j l
-    go j h (no l) = let z : j ≡ i = omega arith in ap p z ∙ e
+    go : (b : Bool) → least n (λ k. p (suc k)) ≤ n → cond b zero (suc (least n (λ k. p (suc k)))) ≤ suc n
+    go true h = omega arith
+    go false h = omega arith
 
-pub found_at : (n : ℕ) (p : ℕ → Bool) (i : ℕ) (r : Bool) → i < n → NoneBefore p i → r ≡ p i → r ≡ true → i ≡ least n p
-found_at n p i r h b e t = sym (least_at n p i h (sym e ∙ t) b.none)
+-- what a search over `0..n` has found
+pub lowest_found : (n : ℕ) (p : ℕ → Bool) (r : Option ℕ)
+    → MatchOption r ((k : ℕ) → 0 ≤ k → k < n → p k ≡ false) (λ i. (0 ≤ i) × (i < n) × (p i ≡ true) × ((k : ℕ) → 0 ≤ k → k < i → p k ≡ false))
+    → r ≡ lowest n p
+unfolding lowest
+lowest_found n p None f = rw (least_none n p (λ j h. f j (omega arith) h), le-ltb n n (omega arith))
+lowest_found n p (Some i) f = rw (least_at n p i f.1 f.2 (λ j h. f.3 j (omega arith) h), lt-ltb i n f.1)
 
-pub found_none : (n : ℕ) (p : ℕ → Bool) (i : ℕ) → n ≤ i → i ≤ n → NoneBefore p i → n ≡ least n p
-found_none n p i h k b = sym (least_none n p (λ j l. b.none j (omega arith)))
+-- what its answer says of `least`
+pub lowest-some : (n : ℕ) (p : ℕ → Bool) (r : Option ℕ) (i : ℕ) → r ≡ lowest n p → r ≡ Some i → (i ≡ least n p) × (i < n)
+unfolding lowest
+lowest-some n p r i e h =
+    let z = cond_some (ltb (least n p) n) (least n p) i (sym e ∙ h) in
+    let l = ltb-true (least n p) n z.0 in
+    let s = z.1 in
+    (sym s, omega arith)
+
+pub lowest-none : (n : ℕ) (p : ℕ → Bool) (r : Option ℕ) → r ≡ lowest n p → r ≡ None → least n p ≡ n
+unfolding lowest
+lowest-none n p r e h = go (less_or (least n p) n)
+  where
+    go : (least n p < n) ⊎ (n ≤ least n p) → least n p ≡ n
+    go (inl l) = absurd (none-some (least n p) (sym h ∙ e ∙ rw (lt-ltb (least n p) n l)))
+    go (inr l) = let b = least-below n p in omega arith
 
 -- ── Handles ──
 
@@ -137,6 +154,10 @@ other_length a b ne = apart a b (λ e. ne (ap length e))
 
 pub other_bytes : (a b : List ℕ) (p x y : ℕ) → x ≡ le 8 a p → y ≡ le 8 b p → (x ≡ y → ⊥) → false ≡ same a b
 other_bytes a b p x y ex ey ne = apart a b (λ e. ne (ex ∙ ap (λ (l : List ℕ). le 8 l p) e ∙ sym ey))
+
+-- .. as a test that has failed says it
+pub other_tested : (a b : List ℕ) (p x y : ℕ) (r : Bool) → x ≡ le 8 a p → y ≡ le 8 b p → r ≡ eqb x y → r ≡ false → r ≡ same a b
+other_tested a b p x y r ex ey e f = f ∙ other_bytes a b p x y ex ey (λ z. false≢true (sym f ∙ e ∙ eq-eqb x y z))
 
 -- no name, of the five tags
 not_named : (k : Cell) → (k.tag ≡ 2 → ⊥) → (k.tag ≡ 3 → ⊥) → named (state_of k) ≡ false

@@ -1,7 +1,6 @@
 pub mod Coding
 pub mod Strides
 pub mod Pasted
-pub mod Fours
 pub mod Framing
 pub mod Finds
 pub mod Rooms
