@@ -1,11 +1,11 @@
 -- What the searches and the tests leave at each return.
 use mathlib.Core.Path.{◌≡◌, refl, sym, ap, ◌∙◌}
 use mathlib.Core.Logic.{◌⊎◌, inl, inr}
-use mathlib.Core.Bool.{Bool, true, false, cond, not, false≢true}
+use mathlib.Core.Bool.{Bool, true, false, cond, false≢true}
 use mathlib.Core.List.{List}
-use Prim.Native.Nat.{ℕ, zero, suc, ◌+◌, ◌-◌, ◌*◌, ◌/◌, ◌%◌, ◌≤◌, ◌<◌, min}
+use Prim.Native.Nat.{ℕ, zero, suc, ◌+◌, ◌-◌, ◌≤◌, ◌<◌, min}
 use native.Mathlib.Nat.{not-suc-le-zero}
-use native.Mathlib.Decide.{dec_lt, ℕ_discrete as dec_eq}
+use native.Mathlib.Decide.{ℕ_discrete as dec_eq}
 use native.Mathlib.Omega.{arith}
 use lib.Dec.{eqb, ltb}
 use Rattle.std.specs.Prelude.{Option, Some, None}
@@ -13,21 +13,17 @@ use Rattle.std.specs.Option.{MatchOption}
 use Rattle.std.proofs.lemmas.Option.{cond_some, none-some}
 use lib.ListN.{length, take, drop, get_or}
 use lib.Seq.{take-take, take_all}
-use borrow.Author.Tests.{lt-ltb, le-ltb, ltb-true, eq-eqb, ne_eqb, not-true, not-false}
+use borrow.Author.Tests.{lt-ltb, le-ltb, ltb-true, eq-eqb, ne_eqb}
 use Rattle.laws.proofs.Tests.{less_or, and_three}
 use Rattle.le.specs.Le.{le}
 use Rattle.rules.specs.Table.{slot_of, handle, same}
 use Rattle.rules.proofs.Wf.{same_refl, same_eq}
 use Rattle.storage.specs.Layout.{part, cell_base}
 use Rattle.storage.specs.Cells.{cell_at, state_of, connection_of}
-use Rattle.storage.specs.Finding.{least, lowest, occupied, waiting, open_in, live_in, free_cell, named, holds_cell}
+use Rattle.storage.specs.Finding.{least, lowest, occupied, open_in, named, holds_cell}
 use Rattle.storage.specs.declared.Cell.{Cell}
-use Rattle.storage.specs.declared.State.{State}
 use Rattle.storage.specs.declared.State.TheVariants.{Closed, Unbound, Connected}
-use Rattle.storage.specs.declared.Connection.{Connection}
-use Rattle.storage.specs.declared.Slot.{Slot}
 use Rattle.storage.proofs.Pasted.{length_part}
-use Rattle.storage.proofs.Coding.{loaded_generation, loaded_state, loaded_at}
 
 -- ── The least that passes ──
 
@@ -78,41 +74,6 @@ lowest-none n p r e h = go (less_or (least n p) n)
 
 -- ── Handles ──
 
-gen_slot : (g h : ℕ) → eqb (handle g (slot_of h)) h ≡ eqb g (h / 65536)
-gen_slot g h =
-    elim (dec_eq g (h / 65536)) [
-      | yes e ↦ let z : g * 65536 + h % 65536 ≡ h = omega arith in eq-eqb (handle g (slot_of h)) h z ∙ sym (eq-eqb g (h / 65536) e)
-      | no ne ↦ ne_eqb (handle g (slot_of h)) h (λ z. ne (omega arith)) ∙ sym (ne_eqb g (h / 65536) ne)
-    ]
-
-module _ (n : ℕ) (w : List ℕ) (h i : ℕ) (ei : i ≡ slot_of h) where
-  pub open_out : n ≤ i → false ≡ open_in n w h
-  unfolding open_in
-  open_out l = rw (le-ltb (slot_of h) n (omega arith))
-
-  pub open_stale : (s : Slot) → s ≡ loaded_at w i → i < n → (s.generation ≡ h / 65536 → ⊥) → false ≡ open_in n w h
-  unfolding open_in
-  open_stale s es l ne =
-      let g : s.generation ≡ (cell_at w (slot_of h)).generation = loaded_generation w ei es in
-      rw (lt-ltb (slot_of h) n (omega arith), gen_slot (cell_at w (slot_of h)).generation h, ne_eqb (cell_at w (slot_of h)).generation (h / 65536) (λ z. ne (g ∙ z)))
-
-  pub open_by_state : (s : Slot) (r : Bool) → s ≡ loaded_at w i → i < n → s.generation ≡ h / 65536 → r ≡ occupied s.state → r ≡ open_in n w h
-  unfolding open_in
-  open_by_state s r es l eg er =
-      let g : (cell_at w (slot_of h)).generation ≡ h / 65536 = sym (loaded_generation w ei es) ∙ eg in
-      er ∙ ap occupied (loaded_state w ei es)
-      ∙ rw (lt-ltb (slot_of h) n (omega arith), gen_slot (cell_at w (slot_of h)).generation h, eq-eqb (cell_at w (slot_of h)).generation (h / 65536) g)
-
-pub not_live : (n : ℕ) (w : List ℕ) (h : ℕ) (r : Bool) → r ≡ open_in n w h → not r ≡ true → false ≡ live_in n w h
-unfolding live_in
-not_live n w h r e t = rw (sym e ∙ not-true r t)
-
-pub live_by_state : (n : ℕ) (w : List ℕ) (h i : ℕ) (o : Bool) (s : Slot) (r : Bool) → o ≡ open_in n w h → not o ≡ false → i ≡ slot_of h
-    → s ≡ loaded_at w i → r ≡ waiting s.state → not r ≡ live_in n w h
-unfolding live_in
-live_by_state n w h i o s r eo t ei es er =
-    ap not (er ∙ ap waiting (loaded_state w ei es)) ∙ rw (sym eo ∙ not-false o t)
-
 -- an open handle's slot is one of n
 pub open_slot : (n : ℕ) (w : List ℕ) (h : ℕ) → open_in n w h ≡ true → slot_of h < n
 unfolding open_in
@@ -123,14 +84,6 @@ unfolding open_in
 open_used_in n w h e = (and_three (ltb (slot_of h) n) (eqb (handle (cell_at w (slot_of h)).generation (slot_of h)) h) (occupied (state_of (cell_at w (slot_of h)))) e).2
 
 -- ── Free slots ──
-
-pub not_free : (k : Cell) (σ : State) (r : Bool) → σ ≡ state_of k → r ≡ occupied σ → r ≡ true → false ≡ free_cell k
-unfolding free_cell
-not_free k σ r es er t = rw (sym (ap occupied es) ∙ sym er ∙ t)
-
-pub free_by_generation : (k : Cell) (σ : State) (r : Bool) → σ ≡ state_of k → r ≡ occupied σ → r ≡ false → ltb k.generation 4294967295 ≡ free_cell k
-unfolding free_cell
-free_by_generation k σ r es er t = rw (sym (ap occupied es) ∙ sym er ∙ t)
 
 -- ── Names ──
 
@@ -198,6 +151,3 @@ unfolding cell_at
 holds_by_name w i b m o x a hb l h ex eo =
     let e : a + x - a ≡ min (get_or w (cell_base i + 2) 0) 255 = omega arith in
     by_name (cell_at w i) (part a 255 b) m o l h (eo ∙ ap (λ (y : List ℕ). same y m) (ap (λ (y : ℕ). part a y b) e ∙ sym (room_take a (get_or w (cell_base i + 2) 0) b hb)))
-
-pub waiting_is : (σ : State) (k : Connection) → σ ≡ Connected k → not (eqb k.waits 0) ≡ waiting σ
-waiting_is σ k e = rw e

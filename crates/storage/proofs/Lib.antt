@@ -3,7 +3,6 @@ pub mod Strides
 pub mod Pasted
 pub mod Framing
 pub mod Finds
-pub mod Rooms
 pub mod Lending
 pub mod Around
 pub mod Viewed

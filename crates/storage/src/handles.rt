@@ -50,7 +50,7 @@ pub fn is_open(words: &[u64], n: usize, h: Handle) -> bool
 }
 
 // The entries take this handle.
-#[tactic(auto, unfolding(crate::specs::Finding::live_in))]
+#[tactic(auto, unfolding(crate::specs::Finding::live_in, crate::specs::Finding::open_in))]
 pub fn is_live(words: &[u64], n: usize, h: Handle) -> bool
     requires { HasSlots n words.now }
     ensures { result ≡ live_in n words.now h.0 }

@@ -84,6 +84,7 @@ pub struct Slot {
 }
 
 // The least sizes for `n` slots of capacity `c`.
+#[tactic(auto, using(crate::proofs::Strides::square, crate::proofs::Strides::area))]
 pub fn least_sizes(n: usize, c: usize) -> Sizes
     requires { (n ≤ 1024) × (c ≤ 65536) }
     ensures { result ≡ sizes_of n c }
@@ -126,7 +127,10 @@ pub fn store_inbox(
     requires { HasSlot i words.old }
     ensures { words.new ≡ store_at words.old i (cell_of generation (Connected (with_inbox connection inbox))) }
 {
-    let state = State::Connected(Connection { inbox, ..connection });
+    let state = State::Connected(Connection {
+        inbox,
+        ..connection
+    });
     store(words, i, Slot { generation, state });
 }
 

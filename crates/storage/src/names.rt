@@ -14,6 +14,7 @@ fn in_room(length: u64) -> usize
 }
 
 // Names that differ mostly do so in their first or last eight bytes: these are asked first.
+#[tactic(auto, using(crate::proofs::Finds::other_length, crate::proofs::Finds::other_tested))]
 fn same_name(a: &[u8], b: &[u8]) -> bool
     ensures { result ≡ same a.now b.now }
 {
@@ -30,6 +31,7 @@ fn same_name(a: &[u8], b: &[u8]) -> bool
 }
 
 // Slot `i` has a socket of this name: one that is bound (2) or listening (3).
+#[tactic(auto, using(crate::proofs::Finds::low_tag, crate::proofs::Finds::high_tag, crate::proofs::Finds::holds_by_name))]
 pub fn holds(words: &[u64], bytes: &[u8], n: usize, c: usize, i: usize, name: &[u8]) -> bool
     requires { (i < n) × HasSlots n words.now × HasNames n c bytes.now }
     ensures { result ≡ holds_cell (cell_at words.now i) (part (name_base n c i) 255 bytes.now) name.now }
@@ -46,14 +48,7 @@ pub fn holds(words: &[u64], bytes: &[u8], n: usize, c: usize, i: usize, name: &[
 }
 
 // The first of the first `m` slots that has a socket of this name.
-pub fn find(
-    words: &[u64],
-    bytes: &[u8],
-    n: usize,
-    c: usize,
-    m: usize,
-    name: &[u8],
-) -> Option<usize>
+pub fn find(words: &[u64], bytes: &[u8], n: usize, c: usize, m: usize, name: &[u8]) -> Option<usize>
     requires { (m ≤ n) × HasSlots n words.now × HasNames n c bytes.now }
     ensures { result ≡ lowest m (λ i. holds_cell (cell_at words.now i) (part (name_base n c i) 255 bytes.now) name.now) }
 {
