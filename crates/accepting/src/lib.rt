@@ -31,8 +31,7 @@ pub fn listen_admitted(
     }
     let i = handles::slot_of(h);
     let slot = storage::load(words, i);
-    let state = slot.state;
-    match state {
+    match slot.state {
         // no live socket is closed
         State::Closed => Err(Errno::DAMAGED),
         State::Unbound => Err(Errno::EDESTADDRREQ),
@@ -80,8 +79,7 @@ pub fn accept_admitted(
     }
     let i = handles::slot_of(h);
     let slot = storage::load(words, i);
-    let state = slot.state;
-    let State::Listening(listener) = state else {
+    let State::Listening(listener) = slot.state else {
         return Err(Errno::EINVAL);
     };
     if listener.pending == 0 {
@@ -90,9 +88,8 @@ pub fn accept_admitted(
     let server = queues::entry(words, n, i, listener.head);
     let j = handles::slot_of(server);
     let pending = storage::load(words, j);
-    let state = pending.state;
     // an entry of a queue is of a connected socket
-    let State::Connected(connection) = state else {
+    let State::Connected(connection) = pending.state else {
         return Err(Errno::DAMAGED);
     };
     let state = State::Listening(Listener {

@@ -13,7 +13,7 @@ ghost use Rattle.draining.specs.Parts.{Drains, nothing_queued, Wakes};
 
 use inbox::AttachedItems;
 use promise::Accepted;
-use storage::{State, handles, inboxes};
+use storage::{Connection, State, handles, inboxes};
 use words::{Errno, Handle};
 
 pub fn read_admitted(
@@ -91,12 +91,10 @@ fn drain(
 {
     let i = handles::slot_of(h);
     let slot = storage::load(words, i);
-    let state = slot.state;
-    let State::Connected(connection) = state else {
+    let State::Connected(connection) = slot.state else {
         return Err(Errno::ENOTCONN);
     };
-    let peer = connection.peer;
-    let inbox = connection.inbox;
+    let Connection { peer, inbox, .. } = connection;
     let peer_open = handles::is_open(words, n, peer);
     if inbox.queued() == 0 {
         return nothing_queued(connection.inbox_closed, peer_open);
@@ -104,8 +102,7 @@ fn drain(
     let taken = inboxes::take(
         words, bytes, tokens, n, c, i, inbox, buf, policy, items, releases,
     );
-    let inbox = taken.inbox;
-    storage::store_inbox(words, i, slot.generation, connection, inbox);
+    storage::store_inbox(words, i, slot.generation, connection, taken.inbox);
     let woken = wake(wakes, peer, peer_open);
     Ok(Accepted {
         flags: taken.flags,
@@ -120,13 +117,10 @@ fn drain(
 fn nothing_queued(inbox_closed: bool, peer_open: bool) -> Result<Accepted, Errno>
     ensures { told result ≡ nothing_queued inbox_closed peer_open }
 {
-    if inbox_closed {
-        return Ok(Accepted::new(0, 0));
+    if peer_open && !inbox_closed {
+        return Err(Errno::EAGAIN);
     }
-    if !peer_open {
-        return Ok(Accepted::new(0, 0));
-    }
-    Err(Errno::EAGAIN)
+    Ok(Accepted::new(0, 0))
 }
 
 // Puts `h` into the wake list where it is to be woken; how many that makes.

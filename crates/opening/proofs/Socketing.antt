@@ -6,7 +6,9 @@ use mathlib.Core.List.{List, []}
 use Prim.Native.Nat.{ℕ, suc, ◌+◌}
 use native.Mathlib.Omega.{arith}
 use lib.IntN.{ℤ}
-use Rattle.std.specs.Prelude.{Result, Ok, Err}
+use Rattle.std.specs.Prelude.{Option, Some, Result, Ok, Err}
+use Rattle.storage.specs.Finding.{lowest}
+use Rattle.storage.proofs.Finds.{lowest-some}
 use Rattle.words.specs.Integers.{equals}
 use Rattle.words.specs.Numbers.{number_of}
 use Rattle.words.specs.declared.Errno.{Errno}
@@ -69,6 +71,10 @@ entered t i g r h = ap (λ (x : ℕ). put t i (record { gen = x; in_use = true; 
 unbound_fit : (n c g : ℕ) (r : Row) → Fit n c r (with_cell (cell_of g Unbound) r)
 unfolding fields_well ranges_well hidden_in hidden_after room_after show_in cell_of state_of
 unbound_fit n c g r = record { fields = fields_unbound g; ranges = refl; numbers = refl; room = refl }
+
+-- a slot that was found is the least one, and not n
+pub found_free : (n : ℕ) (p : ℕ → Bool) (r : Option ℕ) (i : ℕ) → r ≡ lowest n p → r ≡ Some i → (i ≡ least n p) × (i ≢ n)
+found_free n p r i e h = let z = lowest-some n p r i e h in let b = z.1 in (z.0, λ y. omega arith)
 
 -- the arguments as they are handed on
 module _ (n c : ℕ) (s : Store) (l : Lists) (d ty p d' ty' p' : ℤ) (v : Result Unit Errno) (ev' : v ≡ socket_of d' ty' p') (ed : d' ≡ d) (et : ty' ≡ ty) (ep : p' ≡ p) (r : Answer) where

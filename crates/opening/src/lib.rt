@@ -27,19 +27,14 @@ pub fn socket_admitted(
     requires { Admitted n c (lent words.old bytes.now tokens.now) (length wakes.now) (length releases.now) }
     ensures { Runs (Call.Socket domain ty protocol) n c (lent words.old bytes.now tokens.now) (lent words.new bytes.now tokens.now) (lists wakes.now releases.now) (lists wakes.now releases.now) (told result) }
 {
-    match syscall::socket_refusal(domain, ty, protocol) {
-        Err(no) => Err(no),
-        Ok(()) => {
-            let i = handles::lowest_free(words, n);
-            if i == n {
-                return Err(Errno::ENFILE);
-            }
-            let generation = storage::load(words, i).generation + 1;
-            let state = State::Unbound;
-            storage::store(words, i, Slot { generation, state });
-            Ok(Accepted::new(handles::handle(generation, i).0, 0))
-        }
-    }
+    syscall::socket_refusal(domain, ty, protocol)?;
+    let Some(i) = handles::lowest_free(words, n) else {
+        return Err(Errno::ENFILE);
+    };
+    let generation = storage::load(words, i).generation + 1;
+    let state = State::Unbound;
+    storage::store(words, i, Slot { generation, state });
+    Ok(Accepted::new(handles::handle(generation, i).0, 0))
 }
 
 pub fn bind_admitted(
@@ -59,7 +54,7 @@ pub fn bind_admitted(
     if !handles::is_live(words, n, h) {
         return Err(Errno::EBADF);
     }
-    if name.len() == 0 {
+    if name.is_empty() {
         return Err(Errno::EINVAL);
     }
     if 255 < name.len() {
@@ -67,22 +62,14 @@ pub fn bind_admitted(
     }
     let i = handles::slot_of(h);
     let slot = storage::load(words, i);
-    let state = slot.state;
-    let State::Unbound = state else {
+    let State::Unbound = slot.state else {
         return Err(Errno::EINVAL);
     };
-    if names::find(words, bytes, n, c, n, name) != n {
+    if names::find(words, bytes, n, c, n, name).is_some() {
         return Err(Errno::EADDRINUSE);
     }
     names::put_name(bytes, n, c, i, name);
     let state = State::Bound(name.len());
-    storage::store(
-        words,
-        i,
-        Slot {
-            generation: slot.generation,
-            state,
-        },
-    );
+    storage::store(words, i, Slot { state, ..slot });
     Ok(Accepted::new(0, 0))
 }

@@ -35,16 +35,14 @@ pub fn connect_admitted(
     if !handles::is_live(words, n, h) {
         return Err(Errno::EBADF);
     }
-    if name.len() == 0 {
+    if name.is_empty() {
         return Err(Errno::EINVAL);
     }
     if 255 < name.len() {
         return Err(Errno::ENAMETOOLONG);
     }
     let i = handles::slot_of(h);
-    let slot = storage::load(words, i);
-    let state = slot.state;
-    match state {
+    match storage::load(words, i).state {
         // no live socket is closed
         State::Closed => Err(Errno::DAMAGED),
         State::Unbound => reach(words, bytes, tokens, wakes, releases, n, c, h, name),
@@ -70,22 +68,19 @@ fn reach(
     requires caller { Caller n words.old h.0 name.now }
     ensures { Runs (Call.Connect h.0 name.now) n c (lent words.old bytes.now tokens.now) (lent words.new bytes.now tokens.now) (lists wakes.old releases.now) (lists wakes.new releases.now) (told result) }
 {
-    let l = names::find(words, bytes, n, c, n, name);
-    if n <= l {
+    let Some(l) = names::find(words, bytes, n, c, n, name) else {
         return Err(Errno::ECONNREFUSED);
-    }
+    };
     let found = storage::load(words, l);
-    let state = found.state;
-    let State::Listening(listener) = state else {
+    let State::Listening(listener) = found.state else {
         return Err(Errno::ECONNREFUSED);
     };
     if listener.backlog <= listener.pending as u64 {
         return Err(Errno::EAGAIN);
     }
-    let j = handles::lowest_free(words, n);
-    if j == n {
+    let Some(j) = handles::lowest_free(words, n) else {
         return Err(Errno::ENFILE);
-    }
+    };
     join(words, n, h, l, found.generation, listener, j);
     wake(wakes, handles::handle(found.generation, l), h);
     Ok(Accepted::new(0, 2))
@@ -136,24 +131,11 @@ fn pair(
     ensures { (result.0 ≡ handle generation j) × (words.new ≡ pair_in words.old h.0 own j generation l at) }
 {
     let server = handles::handle(generation, j);
-    let waiting = State::Connected(new_end(h, l + 1, at));
-    storage::store(
-        words,
-        j,
-        Slot {
-            generation,
-            state: waiting,
-        },
-    );
+    let state = State::Connected(new_end(h, l + 1, at));
+    storage::store(words, j, Slot { generation, state });
     let state = State::Connected(new_end(server, 0, 0));
-    storage::store(
-        words,
-        handles::slot_of(h),
-        Slot {
-            generation: own,
-            state,
-        },
-    );
+    let generation = own;
+    storage::store(words, handles::slot_of(h), Slot { generation, state });
     server
 }
 
@@ -186,10 +168,8 @@ fn queue_up(
 {
     queues::put_entry(words, n, l, at, server);
     let state = State::Listening(Listener {
-        name: listener.name,
-        backlog: listener.backlog,
-        head: listener.head,
         pending: listener.pending + 1,
+        ..listener
     });
     storage::store(words, l, Slot { generation, state });
 }

@@ -17,26 +17,16 @@ use words::{Errno, Handle};
 fn readable(connection: Connection) -> u64
     ensures { result ≡ readable_of connection }
 {
-    let inbox = connection.inbox;
-    if inbox.queued() != 0 {
+    if connection.inbox.queued() != 0 {
         return 1;
     }
-    if connection.inbox_closed { 1 } else { 0 }
+    connection.inbox_closed as u64
 }
 
 fn has_room(state: State, c: usize) -> bool
     ensures { result ≡ room_in c state }
 {
-    match state {
-        State::Closed => false,
-        State::Unbound => false,
-        State::Bound(_) => false,
-        State::Listening(_) => false,
-        State::Connected(connection) => {
-            let inbox = connection.inbox;
-            inbox.queued() < c
-        }
-    }
+    matches!(state, State::Connected(connection) if connection.inbox.queued() < c)
 }
 
 // "writable if the outbox is open and the peer inbox has room": the peer is in slot `j`
@@ -47,9 +37,7 @@ fn writable(words: &[u64], c: usize, j: usize, connection: Connection) -> u64
     if connection.outbox_closed {
         return 0;
     }
-    let slot = storage::load(words, j);
-    let state = slot.state;
-    if has_room(state, c) { 2 } else { 0 }
+    if has_room(storage::load(words, j).state, c) { 2 } else { 0 }
 }
 
 fn ready(words: &[u64], n: usize, c: usize, connection: Connection) -> u64
@@ -80,8 +68,7 @@ pub fn readiness_admitted(
         return Err(Errno::EBADF);
     }
     let slot = storage::load(words, handles::slot_of(h));
-    let state = slot.state;
-    match state {
+    match slot.state {
         // no live socket is closed
         State::Closed => Err(Errno::DAMAGED),
         State::Unbound => Ok(Accepted::new(0, 0)),

@@ -50,8 +50,7 @@ pub fn sendmsg_admitted(
         return Err(Errno::EBADF);
     }
     let slot = storage::load(words, handles::slot_of(h));
-    let state = slot.state;
-    let State::Connected(connection) = state else {
+    let State::Connected(connection) = slot.state else {
         return Err(Errno::ENOTCONN);
     };
     if connection.outbox_closed {
@@ -93,8 +92,7 @@ fn send(
 {
     let j = handles::slot_of(p);
     let slot = storage::load(words, j);
-    let state = slot.state;
-    let State::Connected(peer) = state else {
+    let State::Connected(peer) = slot.state else {
         return Err(Errno::DAMAGED);
     };
     let inbox = peer.inbox;

@@ -75,8 +75,7 @@ fn shut(
 {
     let i = handles::slot_of(h);
     let slot = storage::load(words, i);
-    let state = slot.state;
-    let State::Connected(connection) = state else {
+    let State::Connected(connection) = slot.state else {
         return Err(Errno::ENOTCONN);
     };
     let peer_open = handles::is_open(words, n, connection.peer);
@@ -128,8 +127,7 @@ fn end_peer(words: &mut [u64], p: Handle, read: bool, write: bool)
 {
     let j = handles::slot_of(p);
     let slot = storage::load(words, j);
-    let state = slot.state;
-    let State::Connected(peer) = state else {
+    let State::Connected(peer) = slot.state else {
         return;
     };
     close_ends(words, j, slot.generation, peer, peer.inbox, write, read);
