@@ -30,7 +30,7 @@ impl SockAddrUn {
         if !utf8::is_utf8(path) {
             return Verdict::Refused(Errno::EINVAL);
         }
-        le::put_u16(addr, 0, abi::AF_UNIX);
+        le::put(addr, 0, abi::AF_UNIX);
         let end = 2 + copy(path, &mut addr[2..]);
         clear(&mut addr[end..SockAddrUn::BYTES]);
         Verdict::Accepted
@@ -67,7 +67,7 @@ impl SockAddrUn {
         if addr.len() < 2 {
             return Verdict::Refused(Errno::EINVAL);
         }
-        if le::get_u16(addr, 0) != abi::AF_UNIX {
+        if le::get::<u16, 2>(addr, 0) != abi::AF_UNIX {
             return Verdict::Refused(Errno::EAFNOSUPPORT);
         }
         let end = zero_from(addr, 2);

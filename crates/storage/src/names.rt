@@ -23,11 +23,11 @@ fn same_name(a: &[u8], b: &[u8]) -> bool
     if a.len() < 8 {
         return check::same(a, b);
     }
-    if le::get_u64(a, 0) != le::get_u64(b, 0) {
+    if le::get::<u64, 8>(a, 0) != le::get::<u64, 8>(b, 0) {
         return false;
     }
     let last = a.len() - 8;
-    if le::get_u64(a, last) != le::get_u64(b, last) {
+    if le::get::<u64, 8>(a, last) != le::get::<u64, 8>(b, last) {
         return false;
     }
     check::same(a, b)

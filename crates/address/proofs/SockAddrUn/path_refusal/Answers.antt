@@ -7,8 +7,8 @@ use Rattle.address.proofs.SockAddrUn.path_refusal.Goals as goal
 pub returns-then-addr-lt2 : goal.returns-then-addr-lt2
 returns-then-addr-lt2 c = search under_two
 
-pub returns-then-get_u16-ne-AF_UNIX : goal.returns-then-get_u16-ne-AF_UNIX
-returns-then-get_u16-ne-AF_UNIX c = other_family _ (search rules) _ c.get_u16.ensures c.if-get_u16-ne-AF_UNIX.true
+pub returns-then-get-ne-AF_UNIX : goal.returns-then-get-ne-AF_UNIX
+returns-then-get-ne-AF_UNIX c = other_family _ (search rules) _ c.get.ensures c.if-get-ne-AF_UNIX.true
 
 pub returns-then-end-eq2 : goal.returns-then-end-eq2
 returns-then-end-eq2 c = search no_path
@@ -17,4 +17,4 @@ pub returns-then-not-is_utf8 : goal.returns-then-not-is_utf8
 returns-then-not-is_utf8 c = search bad
 
 pub returns : goal.returns
-returns c = fine _ (search rules) _ c.get_u16.ensures (search rules) _ c.zero_from-end.ensures _ c.is_utf8.ensures c.if-end-eq2.false (ap not c.if-not-is_utf8.false)
+returns c = fine _ (search rules) _ c.get.ensures (search rules) _ c.zero_from-end.ensures _ c.is_utf8.ensures c.if-end-eq2.false (ap not c.if-not-is_utf8.false)
