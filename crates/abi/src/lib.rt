@@ -71,10 +71,10 @@ impl MsgHdr {
             return Err(Errno::SHORT);
         }
         Ok(MsgHdr {
-            msg_name: le::get_u64(hdr, 0),
-            msg_namelen: le::get_u32(hdr, 8),
-            msg_iovlen: le::get_u64(hdr, 24),
-            msg_controllen: le::get_u64(hdr, 40),
+            msg_name: le::get(hdr, 0),
+            msg_namelen: le::get(hdr, 8),
+            msg_iovlen: le::get(hdr, 24),
+            msg_controllen: le::get(hdr, 40),
         })
     }
 

@@ -30,7 +30,7 @@ impl SockAddrUn {
         if !utf8::is_utf8(path) {
             return Err(Errno::EINVAL);
         }
-        le::put_u16(addr, 0, abi::AF_UNIX);
+        le::put(addr, 0, abi::AF_UNIX);
         let end = 2 + path.len();
         addr[2..end].copy_from_slice(path);
         addr[end..SockAddrUn::BYTES].fill(0);
@@ -57,7 +57,7 @@ impl SockAddrUn {
         if addr.len() < 2 {
             return Err(Errno::EINVAL);
         }
-        if le::get_u16(addr, 0) != abi::AF_UNIX {
+        if le::get::<u16, 2>(addr, 0) != abi::AF_UNIX {
             return Err(Errno::EAFNOSUPPORT);
         }
         let end = zero_from(addr, 2);

@@ -25,8 +25,8 @@ fn same_name(a: &[u8], b: &[u8]) -> bool
         return check::same(a, b);
     }
     let last = a.len() - 8;
-    le::get_u64(a, 0) == le::get_u64(b, 0)
-        && le::get_u64(a, last) == le::get_u64(b, last)
+    le::get::<u64, 8>(a, 0) == le::get::<u64, 8>(b, 0)
+        && le::get::<u64, 8>(a, last) == le::get::<u64, 8>(b, last)
         && check::same(a, b)
 }
 

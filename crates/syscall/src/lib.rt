@@ -104,9 +104,9 @@ fn read_header(control: &[u8]) -> CmsgHdr
     ensures { result ≡ header_at control.now }
 {
     CmsgHdr {
-        cmsg_len: le::get_u64(control, 0),
-        cmsg_level: le::get_i32(control, 8),
-        cmsg_type: le::get_i32(control, 12),
+        cmsg_len: le::get(control, 0),
+        cmsg_level: le::get(control, 8),
+        cmsg_type: le::get(control, 12),
     }
 }
 
@@ -114,23 +114,23 @@ fn write_header(control: &mut [u8], hdr: CmsgHdr)
     requires { 16 ≤ length control.old }
     ensures { control.new ≡ sets control.old 0 (header_bytes hdr) }
 {
-    le::put_u64(control, 0, hdr.cmsg_len);
-    le::put_i32(control, 8, hdr.cmsg_level);
-    le::put_i32(control, 12, hdr.cmsg_type);
+    le::put(control, 0, hdr.cmsg_len);
+    le::put(control, 8, hdr.cmsg_level);
+    le::put(control, 12, hdr.cmsg_type);
 }
 
 fn read_descriptor(part: &[u8], at: usize) -> Descriptor
     requires { at + 4 ≤ length part.now }
     ensures { result.0 ≡ to_z w32 (le 4 part.now at) }
 {
-    Descriptor(le::get_i32(part, at))
+    Descriptor(le::get(part, at))
 }
 
 fn write_descriptor(control: &mut [u8], at: usize, fd: Descriptor)
     requires { at + 4 ≤ length control.old }
     ensures { control.new ≡ sets control.old at (bytes 4 (of_z w32 fd.0)) }
 {
-    le::put_i32(control, at, fd.number());
+    le::put(control, at, fd.number());
 }
 
 // One descriptor for every four bytes; the entries after them stay.

@@ -16,7 +16,13 @@ fn clear(words: &mut [u64], n: usize, c: usize)
 }
 
 // A table of `n` slots of capacity `c`, all of them free.
-pub fn make(words: &mut [u64], bytes: &[u8], tokens: &[u32], n: usize, c: usize) -> Result<(), Errno>
+pub fn make(
+    words: &mut [u64],
+    bytes: &[u8],
+    tokens: &[u32],
+    n: usize,
+    c: usize,
+) -> Result<(), Errno>
     ensures { Makes n c (lent words.old bytes.now tokens.now) (lent words.new bytes.now tokens.now) result }
 {
     if !crate::sizes::in_range(n, c) {

@@ -16,4 +16,4 @@ returns-then-not-is_utf8 c = search bad_path
 
 pub returns : goal.returns
 returns c =
-    wrote _ _ (search rules) (search rules) _ c.is_utf8.ensures (ap not c.if-not-is_utf8.false) _ refl _ _ _ c.put_u16.ensures c.copy_from_slice.ensures.after (c.fill.ensures.after (λ y e. e))
+    wrote _ _ (search rules) (search rules) _ c.is_utf8.ensures (ap not c.if-not-is_utf8.false) _ refl _ _ _ c.put.ensures c.copy_from_slice.ensures.after (c.fill.ensures.after (λ y e. e))
