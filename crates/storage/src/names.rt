@@ -60,5 +60,6 @@ pub fn put_name(bytes: &mut [u8], n: usize, c: usize, i: usize, name: &[u8])
     requires { (i < n) × HasNames n c bytes.old × (length name.now ≤ 255) }
     ensures { bytes.new ≡ paste bytes.old (name_base n c i) (drop 0 name.now) (length name.now) }
 {
-    ring::copy_u8(bytes, c * n + 255 * i, name, 0, name.len());
+    let at = c * n + 255 * i;
+    bytes[at..at + name.len()].copy_from_slice(name);
 }

@@ -12,7 +12,7 @@ fn clear(words: &mut [u64], n: usize, c: usize)
 {
     words[0] = n as u64;
     words[1] = c as u64;
-    ring::fill_u64(words, 0, 2, 0, 6 + 16 * n);
+    words[2..8 + 16 * n].fill(0);
 }
 
 // A table of `n` slots of capacity `c`, all of them free.
