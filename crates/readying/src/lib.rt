@@ -14,6 +14,7 @@ use storage::{Connection, State, handles};
 use words::{Errno, Handle};
 
 // "readable if bytes are queued or the inbox is closed"
+#[tactic(auto, unfolding(crate::specs::Parts::readable_of))]
 fn readable(connection: Connection) -> u64
     ensures { result ≡ readable_of connection }
 {
@@ -23,6 +24,7 @@ fn readable(connection: Connection) -> u64
     connection.inbox_closed as u64
 }
 
+#[tactic(auto, unfolding(crate::specs::Parts::room_in))]
 fn has_room(state: State, c: usize) -> bool
     ensures { result ≡ room_in c state }
 {
@@ -37,7 +39,11 @@ fn writable(words: &[u64], c: usize, j: usize, connection: Connection) -> u64
     if connection.outbox_closed {
         return 0;
     }
-    if has_room(storage::load(words, j).state, c) { 2 } else { 0 }
+    if has_room(storage::load(words, j).state, c) {
+        2
+    } else {
+        0
+    }
 }
 
 fn ready(words: &[u64], n: usize, c: usize, connection: Connection) -> u64

@@ -1,8 +1,8 @@
-use mathlib.Core.Path.{refl, sym}
+use mathlib.Core.Path.{refl, sym, ◌∙◌}
 use borrow.Author.Tests.{eqb-true, eqb-false}
 use Rattle.promise.proofs.Known.{known}
 use Rattle.promise.proofs.Asked.{live-in}
-use Rattle.opening.proofs.Binding.{name_in, bind_stale, bind_nothing, bind_long, bind_again, bind_taken, bind_made}
+use Rattle.opening.proofs.Binding.{name_in, bind_stale, bind_nothing, bind_long, bind_again, bind_taken, bind_made, found_one, found_nothing}
 use Rattle.storage.specs.Rows.{lent}
 use Rattle.promise.specs.Promise.{lists}
 use mathlib.Core.Path.{ap}
@@ -33,7 +33,7 @@ returns-in_default c =
 pub returns-then-is_some : goal.returns-then-is_some
 returns-then-is_some c =
     let a = c.args in
-    bind_taken a.n a.c (lent a.words.now a.bytes.now a.tokens.now) (lists a.wakes.now a.releases.now) a.h.0 a.name.now _ c.is_live.result c.is_live.ensures (ap not c.if-not-is_live.false) (eqb-false _ 0 (sym c.if-is_empty.ensures)) c.if-name-gt255.false c.slot_of-i.result c.slot_of-i.ensures c.load-slot.result c.load-slot.ensures (search c.in-Unbound.is) _ refl (let h = c.is_some.ensures in let k = c.if-is_some.true in ?) refl
+    bind_taken a.n a.c (lent a.words.now a.bytes.now a.tokens.now) (lists a.wakes.now a.releases.now) a.h.0 a.name.now _ c.is_live.result c.is_live.ensures (ap not c.if-not-is_live.false) (eqb-false _ 0 (sym c.if-is_empty.ensures)) c.if-name-gt255.false c.slot_of-i.result c.slot_of-i.ensures c.load-slot.result c.load-slot.ensures (search c.in-Unbound.is) _ refl (found_one _ _ _ c.find.ensures (sym c.is_some.ensures ∙ c.if-is_some.true)) refl
 
 pub put_name-requires : goal.put_name-requires
 put_name-requires c =
@@ -46,4 +46,4 @@ store-requires c = search live-in
 pub returns : goal.returns
 returns c =
     let a = c.args in
-    bind_made a.n a.c (lent a.words.now a.bytes.now a.tokens.now) (lists a.wakes.now a.releases.now) a.h.0 a.name.now _ c.is_live.result c.is_live.ensures (ap not c.if-not-is_live.false) (eqb-false _ 0 (sym c.if-is_empty.ensures)) c.if-name-gt255.false c.slot_of-i.result c.slot_of-i.ensures c.load-slot.result c.load-slot.ensures (search c.in-Unbound.is) _ refl (known c.requires) _ _ (let h = c.is_some.ensures in let k = c.if-is_some.false in ?) c.put_name.ensures c.store.ensures c.new.ensures
+    bind_made a.n a.c (lent a.words.now a.bytes.now a.tokens.now) (lists a.wakes.now a.releases.now) a.h.0 a.name.now _ c.is_live.result c.is_live.ensures (ap not c.if-not-is_live.false) (eqb-false _ 0 (sym c.if-is_empty.ensures)) c.if-name-gt255.false c.slot_of-i.result c.slot_of-i.ensures c.load-slot.result c.load-slot.ensures (search c.in-Unbound.is) _ refl (known c.requires) _ _ (found_nothing _ _ _ c.find.ensures (sym c.is_some.ensures ∙ c.if-is_some.false)) c.put_name.ensures c.store.ensures c.new.ensures
