@@ -18,9 +18,9 @@ pub const SOCK_STREAM: i32 = 1;
 // Tells `shutdown` which direction to close.
 #[derive(Clone, Copy, Debug, PartialEq, Eq)]
 pub enum ShutdownHow {
-    Read,
-    Write,
-    Both,
+    Read = 0,
+    Write = 1,
+    Both = 2,
 }
 
 impl TryFrom<i32> for ShutdownHow {

@@ -318,5 +318,14 @@ pub extern "C" fn eid_readiness(
 ) -> Answer
     ensures { Promise (Call.Readiness handle) n c (lent words.now bytes.now tokens.now) (lent words.now bytes.now tokens.now) (lists wakes.now releases.now) (lists wakes.now releases.now) result }
 {
-    Answer::from(unix_socket::readiness(words, bytes, tokens, wakes, releases, n, c, Handle(handle)))
+    Answer::from(unix_socket::readiness(
+        words,
+        bytes,
+        tokens,
+        wakes,
+        releases,
+        n,
+        c,
+        Handle(handle),
+    ))
 }

@@ -66,7 +66,13 @@ pub fn sizes(n: usize, c: usize) -> Result<Sizes, Errno>
 }
 
 // A fresh table of `n` slots of capacity `c`, whatever stood in the storage.
-pub fn make(words: &mut [u64], bytes: &[u8], tokens: &[u32], n: usize, c: usize) -> Result<(), Errno>
+pub fn make(
+    words: &mut [u64],
+    bytes: &[u8],
+    tokens: &[u32],
+    n: usize,
+    c: usize,
+) -> Result<(), Errno>
     ensures { Makes n c (lent words.old bytes.now tokens.now) (lent words.new bytes.now tokens.now) result }
 {
     table::make::make(words, bytes, tokens, n, c)
@@ -90,8 +96,8 @@ pub fn socket(
 {
     table::admission(words, bytes, tokens, wakes, releases, n, c)?;
     opening::socket_admitted(
-            words, bytes, tokens, wakes, releases, n, c, domain, ty, protocol,
-        )
+        words, bytes, tokens, wakes, releases, n, c, domain, ty, protocol,
+    )
 }
 
 pub fn bind(
@@ -108,9 +114,7 @@ pub fn bind(
     ensures { Promise (Call.Bind h.0 name.now) n c (lent words.old bytes.old tokens.now) (lent words.new bytes.new tokens.now) (lists wakes.now releases.now) (lists wakes.now releases.now) (told result) }
 {
     table::admission(words, bytes, tokens, wakes, releases, n, c)?;
-    opening::bind_admitted(
-            words, bytes, tokens, wakes, releases, n, c, h, name,
-        )
+    opening::bind_admitted(words, bytes, tokens, wakes, releases, n, c, h, name)
 }
 
 pub fn listen(
@@ -127,9 +131,7 @@ pub fn listen(
     ensures { Promise (Call.Listen h.0 backlog) n c (lent words.old bytes.now tokens.now) (lent words.new bytes.now tokens.now) (lists wakes.old releases.now) (lists wakes.new releases.now) (told result) }
 {
     table::admission(words, bytes, tokens, wakes, releases, n, c)?;
-    accepting::listen_admitted(
-            words, bytes, tokens, wakes, releases, n, c, h, backlog,
-        )
+    accepting::listen_admitted(words, bytes, tokens, wakes, releases, n, c, h, backlog)
 }
 
 pub fn accept(
@@ -145,9 +147,7 @@ pub fn accept(
     ensures { Promise (Call.Accept h.0) n c (lent words.old bytes.now tokens.now) (lent words.new bytes.now tokens.now) (lists wakes.old releases.now) (lists wakes.new releases.now) (told result) }
 {
     table::admission(words, bytes, tokens, wakes, releases, n, c)?;
-    accepting::accept_admitted(
-            words, bytes, tokens, wakes, releases, n, c, h,
-        )
+    accepting::accept_admitted(words, bytes, tokens, wakes, releases, n, c, h)
 }
 
 pub fn connect(
@@ -164,9 +164,7 @@ pub fn connect(
     ensures { Promise (Call.Connect h.0 name.now) n c (lent words.old bytes.now tokens.now) (lent words.new bytes.now tokens.now) (lists wakes.old releases.now) (lists wakes.new releases.now) (told result) }
 {
     table::admission(words, bytes, tokens, wakes, releases, n, c)?;
-    pairing::connect_admitted(
-            words, bytes, tokens, wakes, releases, n, c, h, name,
-        )
+    pairing::connect_admitted(words, bytes, tokens, wakes, releases, n, c, h, name)
 }
 
 pub fn read(
@@ -184,9 +182,7 @@ pub fn read(
     ensures promise_fills { PromiseFills (Call.Read h.0 (length buf.old)) n c (lent words.old bytes.now tokens.now) (lists wakes.old releases.old) buf.old buf.new [] [] }
 {
     table::admission(words, bytes, tokens, wakes, releases, n, c)?;
-    draining::read_admitted(
-            words, bytes, tokens, wakes, releases, n, c, h, buf,
-        )
+    draining::read_admitted(words, bytes, tokens, wakes, releases, n, c, h, buf)
 }
 
 pub fn recvmsg(
@@ -205,9 +201,7 @@ pub fn recvmsg(
     ensures promise_fills { PromiseFills (Call.Recvmsg h.0 (length buf.old) (length items.old)) n c (lent words.old bytes.now tokens.now) (lists wakes.old releases.old) buf.old buf.new items.old items.new }
 {
     table::admission(words, bytes, tokens, wakes, releases, n, c)?;
-    draining::recvmsg_admitted(
-            words, bytes, tokens, wakes, releases, n, c, h, buf, items,
-        )
+    draining::recvmsg_admitted(words, bytes, tokens, wakes, releases, n, c, h, buf, items)
 }
 
 pub fn write(
@@ -224,9 +218,7 @@ pub fn write(
     ensures { Promise (Call.Write h.0 buf.now) n c (lent words.old bytes.old tokens.old) (lent words.new bytes.new tokens.new) (lists wakes.old releases.now) (lists wakes.new releases.now) (told result) }
 {
     table::admission(words, bytes, tokens, wakes, releases, n, c)?;
-    sending::write_admitted(
-            words, bytes, tokens, wakes, releases, n, c, h, buf,
-        )
+    sending::write_admitted(words, bytes, tokens, wakes, releases, n, c, h, buf)
 }
 
 pub fn sendmsg(
@@ -244,9 +236,7 @@ pub fn sendmsg(
     ensures { Promise (Call.Sendmsg h.0 buf.now items.now) n c (lent words.old bytes.old tokens.old) (lent words.new bytes.new tokens.new) (lists wakes.old releases.now) (lists wakes.new releases.now) (told result) }
 {
     table::admission(words, bytes, tokens, wakes, releases, n, c)?;
-    sending::sendmsg_admitted(
-            words, bytes, tokens, wakes, releases, n, c, h, buf, items,
-        )
+    sending::sendmsg_admitted(words, bytes, tokens, wakes, releases, n, c, h, buf, items)
 }
 
 pub fn shutdown(
@@ -263,9 +253,7 @@ pub fn shutdown(
     ensures { Promise (Call.Shutdown h.0 how) n c (lent words.old bytes.now tokens.now) (lent words.new bytes.now tokens.now) (lists wakes.old releases.old) (lists wakes.new releases.new) (told result) }
 {
     table::admission(words, bytes, tokens, wakes, releases, n, c)?;
-    shutting::shutdown_admitted(
-            words, bytes, tokens, wakes, releases, n, c, h, how,
-        )
+    shutting::shutdown_admitted(words, bytes, tokens, wakes, releases, n, c, h, how)
 }
 
 pub fn close(
@@ -297,7 +285,5 @@ pub fn readiness(
     ensures { Promise (Call.Readiness h.0) n c (lent words.now bytes.now tokens.now) (lent words.now bytes.now tokens.now) (lists wakes.now releases.now) (lists wakes.now releases.now) (told result) }
 {
     table::admission(words, bytes, tokens, wakes, releases, n, c)?;
-    readying::readiness_admitted(
-            words, bytes, tokens, wakes, releases, n, c, h,
-        )
+    readying::readiness_admitted(words, bytes, tokens, wakes, releases, n, c, h)
 }
