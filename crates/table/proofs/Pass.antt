@@ -8,13 +8,18 @@ use lib.ListN.{get_or, take, drop}
 use lib.Seq.{take-take}
 use lib.Bits.{bit_or}
 use borrow.Author.Tests.{le-leb, not-true}
+use Rattle.std.specs.Prelude.{Option}
+use Rattle.std.specs.Option.{is_none}
+use Rattle.std.proofs.Common.{arith}
+use Rattle.std.proofs.lemmas.Bool.Decides.{nat_tests}
 use Rattle.laws.proofs.Bits.{or-eqb}
 use Rattle.rules.specs.WellFormed.{every}
 use Rattle.storage.specs.Layout.{part, cell_base, name_base}
 use Rattle.storage.specs.Cells.{cell_at, state_of}
-use Rattle.storage.specs.Finding.{least, holds_cell}
+use Rattle.storage.specs.Finding.{least, lowest, holds_cell}
 use Rattle.storage.specs.declared.Cell.{Cell}
 use Rattle.storage.specs.declared.State.TheVariants.{Closed}
+use Rattle.storage.proofs.Finds.{least-below}
 use Rattle.storage.proofs.Lending.{span}
 use Rattle.table.specs.Formed.{header_well}
 use Rattle.table.specs.OnePass.{name_checks, state_checks, generation_well, slot_checks}
@@ -38,13 +43,19 @@ six_zeros w =
 
 -- ── Names ──
 
-pub name_first : (n c : ℕ) (w b : List ℕ) (i m r : ℕ) → 1 ≤ m → m ≤ 255
-    → r ≡ least i (λ j. holds_cell (cell_at w j) (part (name_base n c j) 255 b) (part (name_base n c i) (name_base n c i + m - name_base n c i) b))
-    → eqb r i ≡ name_checks n c w b i m
+none_below : (n : ℕ) (p : ℕ → Bool) → is_none (lowest n p) ≡ eqb (least n p) n
+unfolding lowest
+none_below n p = let h = least-below n p in grind (arith, nat_tests)
+
+pub name_first : (n c : ℕ) (w b : List ℕ) (i m : ℕ) (r : Option ℕ) → 1 ≤ m → m ≤ 255
+    → r ≡ lowest i (λ j. holds_cell (cell_at w j) (part (name_base n c j) 255 b) (part (name_base n c i) (name_base n c i + m - name_base n c i) b))
+    → is_none r ≡ name_checks n c w b i m
 unfolding name_checks
 name_first n c w b i m r h l e =
     let z : part (name_base n c i) (name_base n c i + m - name_base n c i) b ≡ take m (part (name_base n c i) 255 b) = ap (λ (k : ℕ). part (name_base n c i) k b) (span (name_base n c i) m) ∙ sym (take-take m 255 (drop (name_base n c i) b) l) in
-    ap (λ (y : ℕ). eqb y i) (e ∙ ap (λ (y : List ℕ). least i (λ j. holds_cell (cell_at w j) (part (name_base n c j) 255 b) y)) z) ∙ rw (le-leb 1 m h, le-leb m 255 l)
+    ap is_none (e ∙ ap (λ (y : List ℕ). lowest i (λ j. holds_cell (cell_at w j) (part (name_base n c j) 255 b) y)) z)
+    ∙ none_below i (λ j. holds_cell (cell_at w j) (part (name_base n c j) 255 b) (take m (part (name_base n c i) 255 b)))
+    ∙ rw (le-leb 1 m h, le-leb m 255 l)
 
 -- ── A slot ──
 

@@ -13,39 +13,36 @@ use words::Handle;
 
 impl Table<'_> {
     // No name, no queue.
-    #[tactic(auto, using(crate::proofs::WordByWord::unnamed_test))]
+    #[tactic(auto, using(crate::proofs::WordByWord::four_none), unfolding(storage::specs::Cells::cell_at, crate::specs::Formed::no_name, crate::specs::Formed::no_queue))]
     fn unnamed(&self, i: usize) -> bool
         requires { i < self.now.n }
         ensures { result ≡ no_name (cell_at self.now.words.now i) && no_queue (cell_at self.now.words.now i) }
     {
         let b = 8 + 16 * i;
-        let four = storage::load_four(self.words, b + 2);
-        (four.a | four.b | four.c | four.d) == 0
+        (self.words[b + 2] | self.words[b + 3] | self.words[b + 4] | self.words[b + 5]) == 0
     }
 
     // "each flag 0 or 1"
-    #[tactic(auto, using(crate::proofs::WordByWord::flags_test))]
+    #[tactic(auto, using(crate::proofs::WordByWord::both_low), unfolding(storage::specs::Cells::cell_at))]
     fn flags_well(&self, i: usize) -> bool
         requires { i < self.now.n }
         ensures { result ≡ flags_well (cell_at self.now.words.now i) }
     {
         let b = 8 + 16 * i;
-        let four = storage::load_four(self.words, b + 6);
-        (four.b | four.c) <= 1
+        (self.words[b + 7] | self.words[b + 8]) <= 1
     }
 
-    #[tactic(auto, using(crate::proofs::WordByWord::inbox_words))]
+    #[tactic(auto, unfolding(storage::specs::Cells::cell_at))]
     fn inbox_at(&self, i: usize) -> Inbox
         requires { i < self.now.n }
         ensures { result ≡ (connection_of (cell_at self.now.words.now i)).inbox }
     {
         let b = 8 + 16 * i;
-        let four = storage::load_four(self.words, b + 9);
         Inbox {
-            head: four.a as usize,
-            written_total: four.b,
-            read_total: four.c,
-            first: four.d as usize,
+            head: self.words[b + 9] as usize,
+            written_total: self.words[b + 10],
+            read_total: self.words[b + 11],
+            first: self.words[b + 12] as usize,
             items: self.words[b + 13] as usize,
         }
     }
@@ -60,8 +57,7 @@ impl Table<'_> {
         if self.words[b + 14] == 0 {
             return self.words[b + 15] == 0;
         }
-        let server = storage::connection_of(storage::load_cell(self.words, i));
-        self.server_stands(i, me, server)
+        self.server_stands(i, me, storage::load_cell(self.words, i).into())
     }
 
     // The peer, the inbox, and the place in a queue.

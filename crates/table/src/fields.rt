@@ -4,7 +4,7 @@ ghost use Rattle.table.specs.Formed.{no_name, no_queue, no_pair, fields_well};
 ghost use Rattle.table.specs.OnePass.{generation_well};
 
 use crate::{BOUND, CLOSED, LAST_GENERATION, LISTENING, UNBOUND};
-use storage::{Cell, Listener};
+use storage::{Cell, Listener, handles};
 
 #[tactic(auto, unfolding(crate::specs::Formed::no_name))]
 fn no_name(cell: Cell) -> bool
@@ -50,7 +50,7 @@ pub(crate) fn generation_well(cell: Cell) -> bool
     ensures { result ≡ generation_well cell }
 {
     cell.generation <= LAST_GENERATION
-        && (1 <= cell.generation || !storage::handles::is_occupied(storage::decode(cell)))
+        && (1 <= cell.generation || !handles::is_occupied(cell.into()))
 }
 
 // The numbers of a listening socket.

@@ -11,6 +11,7 @@ pub mod sizes;
 ghost use Rattle.std.specs.Prelude.{◌≡◌, ◌≢◌, false, ◌&&◌, ◌+◌, ◌*◌, ◌≤◌, ◌<◌, length, get_or, eqb};
 ghost use Rattle.words.specs.Numbers.{refusal_of};
 ghost use Rattle.rules.specs.WellFormed.{every};
+ghost use Rattle.storage.specs.Layout.{HasRows, HasNames};
 ghost use Rattle.storage.specs.Cells.{cell_at};
 ghost use Rattle.storage.specs.Rows.{lent};
 ghost use Rattle.storage.specs.declared.State.TheVariants.{Listening};
@@ -42,10 +43,11 @@ pub(crate) struct Table<'a> {
     bytes: &'a [u8],
     n: usize,
     c: usize,
-    ghost roomy: { (n ≤ 1024) × (8 + 272 * n + n * n ≤ length words.now) × (c * n + 255 * n ≤ length bytes.now) },
+    ghost roomy: { (n ≤ 1024) × HasRows n words.now × HasNames n c bytes.now },
 }
 
 // The six words after N and C.
+#[tactic(auto, using(crate::proofs::Pass::six_zeros))]
 fn zeros(words: &[u64]) -> bool
     requires { 8 ≤ length words.now }
     ensures { result ≡ every 6 (λ k. eqb (get_or words.now (2 + k) 0) 0) }
@@ -73,7 +75,7 @@ impl Table<'_> {
         }
         let a = self.c * self.n + 255 * i;
         let name = &self.bytes[a..a + m];
-        storage::names::find(self.words, self.bytes, self.n, self.c, i, name) == i
+        storage::names::find(self.words, self.bytes, self.n, self.c, i, name).is_none()
     }
 
     #[tactic(auto, unfolding(crate::specs::OnePass::state_checks, crate::specs::Formed::ranges_well))]
@@ -97,7 +99,7 @@ impl Table<'_> {
         if !fields::generation_well(cell) || !fields::fields_well(cell) {
             return false;
         }
-        match storage::decode(cell) {
+        match State::from(cell) {
             State::Bound(name) => self.name_checks(i, name),
             State::Listening(listener) => self.listening_checks(i, listener),
             _ => true,
@@ -178,7 +180,7 @@ impl Table<'_> {
 // The whole check, one pass over the slots: `checks` of specs/OnePass, which does not look at the
 // items.
 pub fn well_formed(words: &[u64], bytes: &[u8], n: usize, c: usize) -> bool
-    requires { (n ≤ 1024) × (8 + 272 * n + n * n ≤ length words.now) × (c * n + 255 * n ≤ length bytes.now) }
+    requires { (n ≤ 1024) × HasRows n words.now × HasNames n c bytes.now }
     ensures { result ≡ header_well n c words.now && every n (slot_checks n c words.now bytes.now) }
 {
     Table { words, bytes, n, c }.is_well_formed()

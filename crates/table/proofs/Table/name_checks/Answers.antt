@@ -3,4 +3,6 @@ use Rattle.table.proofs.Pass.{name_first}
 use Rattle.table.proofs.Table.name_checks.Goals as goal
 
 pub returns : goal.returns
-returns c = name_first _ _ _ _ _ _ _ (search rules) (search rules) c.find.ensures
+returns c =
+    let e = name_first _ _ _ _ _ _ _ (search rules) (search rules) c.find.ensures in
+    search rules
