@@ -25,8 +25,8 @@ fn same_name(a: &[u8], b: &[u8]) -> bool
         return check::same(a, b);
     }
     let last = a.len() - 8;
-    le::get_u64(a, 0) == le::get_u64(b, 0)
-        && le::get_u64(a, last) == le::get_u64(b, last)
+    le::get::<u64, 8>(a, 0) == le::get::<u64, 8>(b, 0)
+        && le::get::<u64, 8>(a, last) == le::get::<u64, 8>(b, last)
         && check::same(a, b)
 }
 
@@ -60,5 +60,6 @@ pub fn put_name(bytes: &mut [u8], n: usize, c: usize, i: usize, name: &[u8])
     requires { (i < n) × HasNames n c bytes.old × (length name.now ≤ 255) }
     ensures { bytes.new ≡ paste bytes.old (name_base n c i) (drop 0 name.now) (length name.now) }
 {
-    ring::copy_u8(bytes, c * n + 255 * i, name, 0, name.len());
+    let at = c * n + 255 * i;
+    bytes[at..at + name.len()].copy_from_slice(name);
 }

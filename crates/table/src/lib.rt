@@ -20,7 +20,7 @@ ghost use Rattle.table.specs.OnePass.{name_checks, state_checks, slot_checks, Cl
 ghost use Rattle.table.specs.Admission.{admits};
 
 use storage::{Listener, State};
-use words::{Errno, Verdict};
+use words::Errno;
 
 // The tags of slots, as they stand in the words.
 pub(crate) const CLOSED: u64 = 0;
@@ -197,20 +197,20 @@ pub fn admission(
     releases: &[u32],
     n: usize,
     c: usize,
-) -> Verdict
+) -> Result<(), Errno>
     ensures { refusal_of result ≡ admits n c (lent words.now bytes.now tokens.now) (length wakes.now) (length releases.now) }
 {
     if !sizes::in_range(n, c) {
-        return Verdict::Refused(Errno::EINVAL);
+        return Err(Errno::EINVAL);
     }
     if !sizes::storage_fits(words, bytes, tokens, n, c) {
-        return Verdict::Refused(Errno::SHORT);
+        return Err(Errno::SHORT);
     }
     if !sizes::lists_fit(wakes, releases, n, c) {
-        return Verdict::Refused(Errno::SHORT);
+        return Err(Errno::SHORT);
     }
     if !well_formed(words, bytes, n, c) {
-        return Verdict::Refused(Errno::DAMAGED);
+        return Err(Errno::DAMAGED);
     }
-    Verdict::Accepted
+    Ok(())
 }
