@@ -75,7 +75,7 @@ impl Table<'_> {
     }
 
     // A connected socket that is well.
-    #[tactic(auto, unfolding(storage::specs::Cells::cell_at, storage::specs::Cells::state_of, crate::specs::OnePass::slot_checks, crate::specs::OnePass::generation_well, crate::specs::Formed::fields_well, crate::specs::Formed::pair_fields))]
+    #[tactic(auto, unfolding(storage::specs::Cells::cell_at))]
     fn connected_checks(&self, i: usize) -> bool
         requires { i < self.now.n }
         ensures { result ≡ eqb (cell_at self.now.words.now i).tag 4 && slot_checks self.now.n self.now.c self.now.words.now [] i }
