@@ -5,7 +5,7 @@ use mathlib.Core.List.{List, []}
 use Prim.Native.Nat.{ℕ}
 use lib.Dec.{leb, eqb}
 use lib.Bits.{bit_or}
-use Rattle.laws.proofs.Bits.{or-eqb, or-leb}
+use Rattle.laws.proofs.Bits.{or-zero, or-eqb, or-leb}
 use Rattle.storage.specs.Cells.{cell_at, state_of, connection_of}
 use Rattle.storage.specs.declared.Cell.{Cell}
 use Rattle.storage.specs.declared.State.TheVariants.{Connected}
@@ -33,3 +33,8 @@ module _ (n c : ℕ) (w : List ℕ) (i : ℕ) (et : (cell_at w i).tag ≡ 4) whe
   pub no_bytes : (b : List ℕ) → slot_checks n c w [] i ≡ slot_checks n c w b i
   unfolding slot_checks state_checks
   no_bytes b = rw (connected_state (cell_at w i) et)
+
+-- ── The place in a queue ──
+
+pub no_place : (a b : ℕ) → bit_or a b ≡ 0 → (a ≡ 0) × (b ≡ 0)
+no_place a b e = or-zero a b e

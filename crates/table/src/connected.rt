@@ -48,16 +48,17 @@ impl Table<'_> {
     }
 
     // The place in a queue, which a socket that does not wait does not have.
-    #[tactic(auto, unfolding(storage::specs::Cells::cell_at, crate::specs::Formed::tied_state))]
+    #[tactic(auto, using(crate::proofs::WordByWord::no_place), unfolding(storage::specs::Cells::cell_at, crate::specs::Formed::tied_state))]
     fn place_checks(&self, i: usize, me: Handle) -> bool
         requires { (i < self.now.n) × (me.0 ≡ handle (cell_at self.now.words.now i).generation i) }
         ensures { result ≡ place_well (cell_at self.now.words.now i) && tied_state self.now.n self.now.words.now i (Connected (connection_of (cell_at self.now.words.now i))) }
     {
         let b = 8 + 16 * i;
-        if self.words[b + 14] == 0 {
-            return self.words[b + 15] == 0;
+        if (self.words[b + 14] | self.words[b + 15]) == 0 {
+            return true;
         }
-        self.server_stands(i, me, storage::load_cell(self.words, i).into())
+        self.words[b + 14] != 0
+            && self.server_stands(i, me, storage::load_cell(self.words, i).into())
     }
 
     // The peer, the inbox, and the place in a queue.
@@ -74,15 +75,17 @@ impl Table<'_> {
     }
 
     // A connected socket that is well.
-    #[tactic(auto, unfolding(storage::specs::Cells::cell_at, storage::specs::Cells::state_of, crate::specs::OnePass::slot_checks, crate::specs::OnePass::generation_well, crate::specs::Formed::fields_well, crate::specs::Formed::pair_fields))]
+    #[tactic(auto, unfolding(storage::specs::Cells::cell_at))]
     fn connected_checks(&self, i: usize) -> bool
         requires { i < self.now.n }
         ensures { result ≡ eqb (cell_at self.now.words.now i).tag 4 && slot_checks self.now.n self.now.c self.now.words.now [] i }
     {
         let b = 8 + 16 * i;
+        if self.words[b + 1] != CONNECTED {
+            return false;
+        }
         let generation = self.words[b + 0];
-        self.words[b + 1] == CONNECTED
-            && (1..=LAST_GENERATION).contains(&generation)
+        (1..=LAST_GENERATION).contains(&generation)
             && self.unnamed(i)
             && self.flags_well(i)
             && self.state_checks(i, generation)
