@@ -33,7 +33,7 @@ fn lent(out: &mut [u8], at: usize, s: &[u8]) -> usize {
 
 // The four bytes of a descriptor, the least first.
 fn descriptor(out: &mut [u8], at: usize, fd: i32) -> usize {
-    let v = le::bits(fd);
+    let v = fd.cast_unsigned();
     let low = write::hex_byte(out, at, (v % 256) as u8);
     let second = write::hex_byte(out, low, (v / 256 % 256) as u8);
     let third = write::hex_byte(out, second, (v / 65536 % 256) as u8);
@@ -93,8 +93,8 @@ fn rights(count: u64, out: &mut [u8]) -> usize {
     match CmsgHdr::scm_rights(count) {
         Made::Is(hdr) => {
             let len = numbered(out, 0, hdr.cmsg_len);
-            let level = one_more(out, len, le::bits(hdr.cmsg_level) as u64);
-            one_more(out, level, le::bits(hdr.cmsg_type) as u64)
+            let level = one_more(out, len, hdr.cmsg_level.cast_unsigned() as u64);
+            one_more(out, level, hdr.cmsg_type.cast_unsigned() as u64)
         }
         Made::Refused(no) => {
             let len = numbered(out, no.number(), 0);
@@ -181,7 +181,7 @@ fn encoded_of(fds: &[i32; 64], count: usize, control: &mut [u8], out: &mut [u8])
 fn get(bytes: &[u8], at: usize) -> i32 {
     if 4 <= bytes.len() {
         if at <= bytes.len() - 4 {
-            return le::get_i32(bytes, at);
+            return le::get(bytes, at);
         }
     }
     0

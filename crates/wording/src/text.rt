@@ -197,9 +197,9 @@ fn negative(size: u32) -> u32 {
 pub fn signed(s: &[u8]) -> i32 {
     let size = number32(size_of(s));
     if byte(s, 0) == b'-' {
-        le::signed(negative(size))
+        negative(size).cast_signed()
     } else {
-        le::signed(size)
+        size.cast_signed()
     }
 }
 

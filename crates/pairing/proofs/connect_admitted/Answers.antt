@@ -1,3 +1,4 @@
+use mathlib.Core.Path.{refl}
 use Rattle.pairing.proofs.Reaching.{connect_stale, connect_unnamed, connect_long, connect_closed, connect_unbound, connect_bound, connect_listening, connect_connected}
 use Rattle.storage.specs.Rows.{lent}
 use Rattle.promise.specs.Promise.{lists}
@@ -40,7 +41,7 @@ returns-in-Closed c =
     let v = c.is_live in
     let i = c.slot_of-i in
     let w = c.load-slot in
-    connect_closed p.n p.c s ls p.h.0 p.name.now c.refused-in-Closed.result v.result v.ensures (ap not c.if-not-is_live.false) i.result w.result i.ensures w.ensures c.if-name-eq0.false
+    connect_closed p.n p.c s ls p.h.0 p.name.now _ v.result v.ensures (ap not c.if-not-is_live.false) i.result w.result i.ensures w.ensures c.if-name-eq0.false
     c.if-name-gt255.false c.in-Closed.is
 
 pub returns-in-Bound : goal.returns-in-Bound
@@ -51,8 +52,8 @@ returns-in-Bound c =
     let v = c.is_live in
     let i = c.slot_of-i in
     let w = c.load-slot in
-    connect_bound p.n p.c s ls p.h.0 p.name.now c.refused-in-Bound.result v.result v.ensures (ap not c.if-not-is_live.false) i.result w.result i.ensures w.ensures c.if-name-eq0.false
-    c.if-name-gt255.false _ c.in-Bound.is c.refused-in-Bound.ensures
+    connect_bound p.n p.c s ls p.h.0 p.name.now _ v.result v.ensures (ap not c.if-not-is_live.false) i.result w.result i.ensures w.ensures c.if-name-eq0.false
+    c.if-name-gt255.false _ c.in-Bound.is refl
 
 pub returns-in-Listening : goal.returns-in-Listening
 returns-in-Listening c =
@@ -62,8 +63,8 @@ returns-in-Listening c =
     let v = c.is_live in
     let i = c.slot_of-i in
     let w = c.load-slot in
-    connect_listening p.n p.c s ls p.h.0 p.name.now c.refused-in-Listening.result v.result v.ensures (ap not c.if-not-is_live.false) i.result w.result i.ensures w.ensures c.if-name-eq0.false
-    c.if-name-gt255.false _ c.in-Listening.is c.refused-in-Listening.ensures
+    connect_listening p.n p.c s ls p.h.0 p.name.now _ v.result v.ensures (ap not c.if-not-is_live.false) i.result w.result i.ensures w.ensures c.if-name-eq0.false
+    c.if-name-gt255.false _ c.in-Listening.is refl
 
 pub returns-in-Connected : goal.returns-in-Connected
 returns-in-Connected c =
@@ -73,5 +74,5 @@ returns-in-Connected c =
     let v = c.is_live in
     let i = c.slot_of-i in
     let w = c.load-slot in
-    connect_connected p.n p.c s ls p.h.0 p.name.now c.refused-in-Connected.result v.result v.ensures (ap not c.if-not-is_live.false) i.result w.result i.ensures w.ensures c.if-name-eq0.false
-    c.if-name-gt255.false _ c.in-Connected.is c.refused-in-Connected.ensures
+    connect_connected p.n p.c s ls p.h.0 p.name.now _ v.result v.ensures (ap not c.if-not-is_live.false) i.result w.result i.ensures w.ensures c.if-name-eq0.false
+    c.if-name-gt255.false _ c.in-Connected.is refl

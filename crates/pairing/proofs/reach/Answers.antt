@@ -1,3 +1,4 @@
+use mathlib.Core.Path.{refl}
 use Rattle.pairing.proofs.Reaching.{reach_none, found_handle, reach_other, reach_full, reach_no_slot, join_asks, reach_made}
 use Rattle.storage.specs.Rows.{lent}
 use Rattle.promise.specs.Promise.{lists}
@@ -13,8 +14,8 @@ returns-then-n-l c =
     let s = lent p.words.now p.bytes.now p.tokens.now in
     let ls = lists p.wakes.now p.releases.now in
     let l = c.find-l in
-    reach_none p.n p.c s ls p.h.0 p.name.now c.refused.result (known c.requires.admitted) c.requires.caller l.result l.ensures
-    c.if-n-l.true c.refused.ensures
+    reach_none p.n p.c s ls p.h.0 p.name.now _ (known c.requires.admitted) c.requires.caller l.result l.ensures
+    c.if-n-l.true refl
 
 pub load-found-requires : goal.load-found-requires
 load-found-requires c = slot_in c.requires.admitted c.find-l.result c.if-n-l.false
@@ -26,8 +27,8 @@ returns-in_default c =
     let ls = lists p.wakes.now p.releases.now in
     let l = c.find-l in
     let f = c.load-found in
-    reach_other p.n p.c s ls p.h.0 p.name.now c.refused-in_default.result (known c.requires.admitted) c.requires.caller l.result l.ensures
-    c.if-n-l.false f.result f.ensures c.in_default.not-Listening c.refused-in_default.ensures
+    reach_other p.n p.c s ls p.h.0 p.name.now _ (known c.requires.admitted) c.requires.caller l.result l.ensures
+    c.if-n-l.false f.result f.ensures c.in_default.not-Listening refl
 
 pub returns-then-listener : goal.returns-then-listener
 returns-then-listener c =
@@ -36,8 +37,8 @@ returns-then-listener c =
     let ls = lists p.wakes.now p.releases.now in
     let l = c.find-l in
     let f = c.load-found in
-    reach_full p.n p.c s ls p.h.0 p.name.now c.refused-then-listener.result (known c.requires.admitted) c.requires.caller l.result l.ensures
-    c.if-n-l.false f.result f.ensures _ c.in-Listening.is c.if-listener.true c.refused-then-listener.ensures
+    reach_full p.n p.c s ls p.h.0 p.name.now _ (known c.requires.admitted) c.requires.caller l.result l.ensures
+    c.if-n-l.false f.result f.ensures _ c.in-Listening.is c.if-listener.true refl
 
 pub returns-then-j-n : goal.returns-then-j-n
 returns-then-j-n c =
@@ -47,9 +48,9 @@ returns-then-j-n c =
     let l = c.find-l in
     let f = c.load-found in
     let j = c.lowest_free-j in
-    reach_no_slot p.n p.c s ls p.h.0 p.name.now c.refused-then-j-n.result (known c.requires.admitted) c.requires.caller l.result l.ensures
+    reach_no_slot p.n p.c s ls p.h.0 p.name.now _ (known c.requires.admitted) c.requires.caller l.result l.ensures
     c.if-n-l.false f.result f.ensures _ c.in-Listening.is c.if-listener.false j.result j.ensures
-    c.if-j-n.true c.refused-then-j-n.ensures
+    c.if-j-n.true refl
 
 pub join-requires : goal.join-requires
 join-requires c =
@@ -90,6 +91,6 @@ returns c =
     let f = c.load-found in
     let j = c.lowest_free-j in
     let m = c.handle in
-    reach_made p.n p.c s ls p.h.0 p.name.now c.accepted.result (known c.requires.admitted) c.requires.caller l.result l.ensures
+    reach_made p.n p.c s ls p.h.0 p.name.now _ (known c.requires.admitted) c.requires.caller l.result l.ensures
     c.if-n-l.false f.result f.ensures _ c.in-Listening.is c.if-listener.false j.result j.ensures
-    c.if-j-n.false _ m.result.0 _ c.join.ensures m.ensures c.wake.ensures c.accepted.ensures
+    c.if-j-n.false _ m.result.0 _ c.join.ensures m.ensures c.wake.ensures c.new.ensures

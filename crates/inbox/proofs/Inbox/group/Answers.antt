@@ -1,26 +1,29 @@
-use Rattle.std.proofs.Common.{arith, rules}
+use Rattle.std.proofs.Common.{arith}
+use Rattle.inbox.specs.View.{distances}
+use Rattle.inbox.proofs.Shows.{length-distances}
 use Rattle.inbox.proofs.Parts.{group_goes_on, group_stops, group_ends}
 use Rattle.inbox.proofs.Inbox.group.Goals as goal
 
-pub loop-i-init : goal.loop-i-init
-loop-i-init c = (search rules, omega arith)
-
-pub returns-then-places-place : goal.returns-then-places-place
-returns-then-places-place c =
-    let a = c.args in
+pub returns-then-distance_of-ne0 : goal.returns-then-distance_of-ne0
+returns-then-distance_of-ne0 c =
+    let ds = distances c.args.self c.args.places.now in
+    let long = length-distances c.args.places.now c.args.self c.requires.ring c.requires.items_in.0 c.requires.items_in.1 in
     let l = c.loop-i in
-    let p = c.place in
-    group_stops a.self a.places.now l.i (omega arith) (omega arith) (omega arith) p.result (omega arith) p.ensures.0 l.invariant.1 (omega (arith, c.shared_slice_known-in-loop-i-1.given p.result)) (search rules) c.if-places-place.true
+    let d = c.distance_of in
+    (group_stops ds l.i d.result (omega arith) d.ensures l.invariant c.if-distance_of-ne0.true, omega arith)
 
 pub loop-i-preserved : goal.loop-i-preserved
 loop-i-preserved c =
-    let a = c.args in
+    let ds = distances c.args.self c.args.places.now in
+    let long = length-distances c.args.places.now c.args.self c.requires.ring c.requires.items_in.0 c.requires.items_in.1 in
     let l = c.loop-i in
-    let p = c.place in
-    (search rules, group_goes_on a.self a.places.now l.i (omega arith) (omega arith) (omega arith) p.result (omega arith) p.ensures.0 l.invariant.1 (search rules))
+    let d = c.distance_of in
+    group_goes_on ds l.i d.result (omega arith) d.ensures l.invariant c.if-distance_of-ne0.false
 
 pub returns : goal.returns
 returns c =
-    let a = c.args in
+    let ds = distances c.args.self c.args.places.now in
+    let long = length-distances c.args.places.now c.args.self c.requires.ring c.requires.items_in.0 c.requires.items_in.1 in
     let l = c.loop-i in
-    group_ends a.self a.places.now l.i (omega arith) (omega arith) (omega arith) (omega arith) (omega arith) l.invariant.1
+    let e = group_ends ds l.i (omega arith) l.invariant in
+    (omega arith, omega arith)

@@ -1,10 +1,7 @@
-use Rattle.std.proofs.Common.{◌≡◌, ◌+◌, ◌-◌, ◌≤◌, drop}
+use Rattle.std.proofs.Common.{◌≡◌, ◌+◌, drop}
 use Rattle.inbox.specs.View.{distances, front}
 use Rattle.inbox.proofs.Inbox.group.Given as goal
 
 -- The items before i are at the first queued byte.
 abbrev pub invariant-loop-i : goal.invariant-loop-i
-invariant-loop-i l = (l.i ≤ l.self.items) × (front (distances l.self l.places) ≡ l.i + front (drop l.i (distances l.self l.places)))
-
-abbrev pub decreases-loop-i : goal.decreases-loop-i
-decreases-loop-i l = l.self.items - l.i
+invariant-loop-i l = front (distances l.self l.places) ≡ l.i + front (drop l.i (distances l.self l.places))

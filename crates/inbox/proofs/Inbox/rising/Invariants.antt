@@ -1,11 +1,8 @@
-use Rattle.std.proofs.Common.{◌≡◌, ◌-◌, ◌≤◌, drop}
+use Rattle.std.proofs.Common.{◌≡◌, drop}
 use Rattle.inbox.specs.View.{distances}
 use Rattle.inbox.specs.Well.{rises}
 use Rattle.inbox.proofs.Inbox.rising.Given as goal
 
 -- The items before i rise to low; what is left is to rise from there.
 abbrev pub invariant-loop-i : goal.invariant-loop-i
-invariant-loop-i l = (l.i ≤ l.self.items) × (rises 0 l.n (distances l.self l.places) ≡ rises l.low l.n (drop l.i (distances l.self l.places)))
-
-abbrev pub decreases-loop-i : goal.decreases-loop-i
-decreases-loop-i l = l.self.items - l.i
+invariant-loop-i l = rises 0 l.n (distances l.self l.places) ≡ rises l.low l.n (drop l.i (distances l.self l.places))

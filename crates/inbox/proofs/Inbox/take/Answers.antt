@@ -4,13 +4,13 @@ use Rattle.inbox.proofs.Parts.{handed_few}
 use Rattle.inbox.proofs.Parts.{takes}
 use Rattle.inbox.proofs.Inbox.take.Goals as goal
 
-pub read_u8-requires : goal.read_u8-requires
-read_u8-requires c =
+pub read-requires : goal.read-requires
+read-requires c =
     let a = c.args in
     let pre = c.requires in
     let g = c.group-g in
     let r = c.reach in
-    let k = c.least-k in
+    let k = c.min-k in
     let z = reach_le a.places.now a.self g.result pre.well.rising in
     search rules
 
@@ -36,7 +36,7 @@ moved_on-requires c =
     let pre = c.requires in
     let g = c.group-g in
     let r = c.reach in
-    let k = c.least-k in
+    let k = c.min-k in
     let z = reach_le a.places.now a.self g.result pre.well.rising in
     search rules
 
@@ -46,8 +46,8 @@ returns c =
     let pre = c.requires in
     let g = c.group-g in
     let r = c.reach in
-    let k = c.least-k in
+    let k = c.min-k in
     let m = c.handed-m in
     let f = c.flags in
     takes _ _ _ _ _ _ _ _ _ a.policy a.self c.moved_on.result g.result r.result k.result m.result f.result pre.well pre.rings.1 pre.rings.2 pre.rings.3
-    g.ensures.0 g.ensures.1 r.ensures k.ensures m.ensures c.read_u8.ensures c.hand_over.ensures f.ensures c.moved_on.ensures
+    g.ensures.0 g.ensures.1 r.ensures k.ensures m.ensures c.read.ensures c.hand_over.ensures f.ensures c.moved_on.ensures
