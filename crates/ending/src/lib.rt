@@ -28,7 +28,14 @@ fn leave(words: &mut [u64], i: usize, generation: u64)
     requires { 8 + 16 * i + 16 ≤ length words.old }
     ensures { words.new ≡ store_at words.old i (cell_of generation Closed) }
 {
-    storage::store(words, i, Slot { generation, state: State::Closed });
+    storage::store(
+        words,
+        i,
+        Slot {
+            generation,
+            state: State::Closed,
+        },
+    );
 }
 
 // The connected socket in slot `i` closes: its items are released, its open peer is woken.
@@ -56,14 +63,14 @@ fn end(
         ..done
     };
     leave(words, i, generation);
-    if !peer_open {
-        return done;
+    if peer_open {
+        wakes[done.wakes] = connection.peer.0;
+        return Closing {
+            wakes: done.wakes + 1,
+            ..done
+        };
     }
-    wakes[done.wakes] = connection.peer.0;
-    Closing {
-        wakes: done.wakes + 1,
-        ..done
-    }
+    done
 }
 
 // A pending server closes.
