@@ -7,6 +7,7 @@ ghost use Rattle.storage.specs.Cells.{cell_at};
 ghost use Rattle.storage.specs.Finding.{holds_cell, lowest};
 
 // Names that differ mostly do so in their length, or their first or last eight bytes: these are asked first.
+// Stays: more than `a == b`. Tried, slower: that alone takes 16 ns for 255 bytes that differ in the last two, this 3.
 #[tactic(auto, using(crate::proofs::Finds::equal_is, crate::proofs::Finds::other_length))]
 fn same_name(a: &[u8], b: &[u8]) -> bool
     ensures { result ≡ same a.now b.now }
