@@ -7,15 +7,17 @@ use Prim.Native.Nat.{ℕ, zero, suc, ◌+◌, ◌-◌, ◌≤◌, ◌<◌, min}
 use native.Mathlib.Nat.{not-suc-le-zero}
 use native.Mathlib.Decide.{ℕ_discrete as dec_eq}
 use native.Mathlib.Omega.{arith}
+use lib.Pointwise.{pointwise, bytes_decides}
 use lib.Dec.{eqb, ltb}
 use Rattle.std.specs.Prelude.{Option, Some, None}
-use Rattle.std.specs.Option.{MatchOption}
+use denote.Ref.{Bor}
+use Rattle.std.specs.Array.{IsFirstChunk, IsWholeChunk}
+use Rattle.std.specs.Option.{MatchOption, option_eq}
 use Rattle.std.proofs.lemmas.Option.{cond_some, none-some}
 use lib.ListN.{length, take, drop, get_or}
 use lib.Seq.{take-take, take_all}
-use borrow.Author.Tests.{lt-ltb, le-ltb, ltb-true, eq-eqb, ne_eqb}
+use borrow.Author.Tests.{lt-ltb, le-ltb, ltb-true, ne_eqb}
 use Rattle.laws.proofs.Tests.{less_or, and_three}
-use Rattle.le.specs.Le.{le}
 use Rattle.rules.specs.Table.{slot_of, handle, same}
 use Rattle.rules.proofs.Wf.{same_refl, same_eq}
 use Rattle.storage.specs.Layout.{part, cell_base}
@@ -102,15 +104,36 @@ apart a b ne = go (same a b) refl
     go true e = absurd (ne (same_eq a b e))
     go false e = sym e
 
+-- what `==` answers of two names, and of what their ends alone show
+pub equal_is : (a b : List ℕ) (r : Bool) → r ≡ pointwise eqb a b → r ≡ same a b
+equal_is a b r e = e ∙ same_is a b (pointwise eqb a b) (bytes_decides a b)
+
 pub other_length : (a b : List ℕ) → (length a ≡ length b → ⊥) → false ≡ same a b
 other_length a b ne = apart a b (λ e. ne (ap length e))
 
-pub other_bytes : (a b : List ℕ) (p x y : ℕ) → x ≡ le 8 a p → y ≡ le 8 b p → (x ≡ y → ⊥) → false ≡ same a b
-other_bytes a b p x y ex ey ne = apart a b (λ e. ne (ex ∙ ap (λ (l : List ℕ). le 8 l p) e ∙ sym ey))
+-- the first and the last eight bytes, where there are so many
+abbrev FirstOf : List ℕ → Option (Bor (List ℕ)) → Type 0
+FirstOf l o = MatchOption o (length l < 8) (λ y. IsFirstChunk l y.now 8)
 
--- .. as a test that has failed says it
-pub other_tested : (a b : List ℕ) (p x y : ℕ) (r : Bool) → x ≡ le 8 a p → y ≡ le 8 b p → r ≡ eqb x y → r ≡ false → r ≡ same a b
-other_tested a b p x y r ex ey e f = f ∙ other_bytes a b p x y ex ey (λ z. false≢true (sym f ∙ e ∙ eq-eqb x y z))
+abbrev LastOf : List ℕ → Option (Bor (List ℕ)) → Type 0
+LastOf l o = MatchOption o (length l < 8) (λ y. (8 ≤ length l) × IsWholeChunk (drop (length l - 8) l) y.now 8)
+
+abbrev equal_chunks : Option (Bor (List ℕ)) → Option (Bor (List ℕ)) → Bool
+equal_chunks = option_eq (λ x y. pointwise eqb x.now y.now)
+
+pub other_first : (a b : List ℕ) (o p : Option (Bor (List ℕ))) (r : Bool) → FirstOf a o → FirstOf b p → r ≡ equal_chunks o p → r ≡ false → r ≡ same a b
+other_first a b None None r ea eb e f = absurd (false≢true (sym f ∙ e))
+other_first a b None (Some y) r ea eb e f = let l = eb.enough in f ∙ other_length a b (λ z. omega arith)
+other_first a b (Some x) None r ea eb e f = let l = ea.enough in f ∙ other_length a b (λ z. omega arith)
+other_first a b (Some x) (Some y) r ea eb e f =
+    f ∙ apart a b (λ z. false≢true (sym f ∙ e ∙ (bytes_decides x.now y.now).1 (ea.same ∙ ap (take 8) z ∙ sym eb.same)))
+
+pub other_last : (a b : List ℕ) (o p : Option (Bor (List ℕ))) (r : Bool) → LastOf a o → LastOf b p → r ≡ equal_chunks o p → r ≡ false → r ≡ same a b
+other_last a b None None r ea eb e f = absurd (false≢true (sym f ∙ e))
+other_last a b None (Some y) r ea eb e f = f ∙ other_length a b (λ z. omega arith)
+other_last a b (Some x) None r ea eb e f = f ∙ other_length a b (λ z. omega arith)
+other_last a b (Some x) (Some y) r ea eb e f =
+    f ∙ apart a b (λ z. false≢true (sym f ∙ e ∙ (bytes_decides x.now y.now).1 (ea.1.same ∙ ap (λ (l : List ℕ). drop (length l - 8) l) z ∙ sym eb.1.same)))
 
 -- no name, of the five tags
 not_named : (k : Cell) → (k.tag ≡ 2 → ⊥) → (k.tag ≡ 3 → ⊥) → named (state_of k) ≡ false

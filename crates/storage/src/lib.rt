@@ -160,30 +160,29 @@ pub fn load_cell(words: &[u64], i: usize) -> Cell
     }
 }
 
+// Stays: a store for each word. Tried, slower: `copy_from_slice` of an array of the words takes 15 ns, this 6.
 #[tactic(auto, unfolding(crate::specs::Cells::store_at))]
 fn store_cell(words: &mut [u64], i: usize, cell: Cell)
     requires { HasSlot i words.old }
     ensures { words.new ≡ store_at words.old i cell }
 {
     let b = 8 + 16 * i;
-    words[b..b + 16].copy_from_slice(&[
-        cell.generation,
-        cell.tag,
-        cell.name,
-        cell.backlog,
-        cell.head,
-        cell.pending,
-        cell.peer,
-        cell.inbox_closed,
-        cell.outbox_closed,
-        cell.byte,
-        cell.written_total,
-        cell.read_total,
-        cell.first,
-        cell.items,
-        cell.waits,
-        cell.place,
-    ]);
+    words[b + 0] = cell.generation;
+    words[b + 1] = cell.tag;
+    words[b + 2] = cell.name;
+    words[b + 3] = cell.backlog;
+    words[b + 4] = cell.head;
+    words[b + 5] = cell.pending;
+    words[b + 6] = cell.peer;
+    words[b + 7] = cell.inbox_closed;
+    words[b + 8] = cell.outbox_closed;
+    words[b + 9] = cell.byte;
+    words[b + 10] = cell.written_total;
+    words[b + 11] = cell.read_total;
+    words[b + 12] = cell.first;
+    words[b + 13] = cell.items;
+    words[b + 14] = cell.waits;
+    words[b + 15] = cell.place;
 }
 
 // What a cell says; a tag that no state has is read as closed.

@@ -1,33 +1,23 @@
 // Names: each slot has room for 255 bytes, of which its state says how many are the name.
-ghost use Rattle.std.specs.Prelude.{◌≡◌, ◌+◌, ◌*◌, ◌≤◌, ◌<◌, min, length, drop};
+ghost use Rattle.std.specs.Prelude.{◌≡◌, ◌≤◌, ◌<◌, length, drop};
 ghost use Rattle.std.proofs.Math.Seq.{paste};
 ghost use Rattle.rules.specs.Table.{same};
 ghost use Rattle.storage.specs.Layout.{part, name_base, HasSlots, HasNames};
 ghost use Rattle.storage.specs.Cells.{cell_at};
 ghost use Rattle.storage.specs.Finding.{holds_cell, lowest};
 
-// The length, but no more than the room has.
-fn in_room(length: u64) -> usize
-    ensures { result ≡ min length 255 }
-{
-    length.min(255) as usize
-}
-
-// Names that differ mostly do so in their first or last eight bytes: these are asked first.
-#[tactic(auto, using(crate::proofs::Finds::other_length, crate::proofs::Finds::other_tested))]
+// Names that differ mostly do so in their length, or their first or last eight bytes: these are asked first.
+// Stays: more than `a == b`. Tried, slower: that alone takes 16 ns for 255 bytes that differ in the last two, this 3.
+#[tactic(auto, using(crate::proofs::Finds::equal_is, crate::proofs::Finds::other_length))]
 fn same_name(a: &[u8], b: &[u8]) -> bool
     ensures { result ≡ same a.now b.now }
 {
     if a.len() != b.len() {
         return false;
     }
-    if a.len() < 8 {
-        return check::same(a, b);
-    }
-    let last = a.len() - 8;
-    le::get::<u64, 8>(a, 0) == le::get::<u64, 8>(b, 0)
-        && le::get::<u64, 8>(a, last) == le::get::<u64, 8>(b, last)
-        && check::same(a, b)
+    a.first_chunk::<8>() == b.first_chunk::<8>()
+        && a.last_chunk::<8>() == b.last_chunk::<8>()
+        && a == b
 }
 
 // Slot `i` has a socket of this name: one that is bound (2) or listening (3).
@@ -40,7 +30,7 @@ pub fn holds(words: &[u64], bytes: &[u8], n: usize, c: usize, i: usize, name: &[
     match words[b + 1] {
         2..=3 => {
             let a = c * n + 255 * i;
-            let e = a + in_room(words[b + 2]);
+            let e = a + words[b + 2].min(255) as usize;
             same_name(&bytes[a..e], name)
         }
         _ => false,
@@ -60,6 +50,6 @@ pub fn put_name(bytes: &mut [u8], n: usize, c: usize, i: usize, name: &[u8])
     requires { (i < n) × HasNames n c bytes.old × (length name.now ≤ 255) }
     ensures { bytes.new ≡ paste bytes.old (name_base n c i) (drop 0 name.now) (length name.now) }
 {
-    let at = c * n + 255 * i;
-    bytes[at..at + name.len()].copy_from_slice(name);
+    let a = c * n + 255 * i;
+    bytes[a..a + name.len()].copy_from_slice(name);
 }
