@@ -68,6 +68,25 @@ module _ (a : List ℕ) where
         pub fine : (e ≡ 2 → ⊥) → not b ≡ false → address_of a ≡ Address.path (take (e - 2) (drop 2 a))
         fine z n = rw part (says ∙ named_good (up_to_zero (drop 2 a)) (λ q. z (omega arith)) (ap is_utf8 (sym part) ∙ sym test ∙ not-false b n))
 
+-- a path is what stands before the first zero
+path_named : (s p : List ℕ) → named s ≡ Address.path p → p ≡ s
+unfolding named
+path_named [] p e = absurd (let z : ◌≡◌ {A = ℕ} 0 1 = cc in omega arith)
+path_named (b ∷ s) p e = go (is_utf8 (b ∷ s)) e
+  where
+    go : (d : Bool) → cond d (Address.path (b ∷ s)) (Address.refused EINVAL) ≡ Address.path p → p ≡ b ∷ s
+    go true q = cc
+    go false q = absurd (let z : ◌≡◌ {A = ℕ} 0 1 = cc in omega arith)
+
+pub path_said : (a p : List ℕ) → address_of a ≡ Address.path p → p ≡ up_to_zero (drop 2 a)
+unfolding address_of
+path_said a p e = go (ltb (length a) 2) (eqb (le 2 a 0) 1) e
+  where
+    go : (b d : Bool) → cond b (Address.refused EINVAL) (cond d (named (up_to_zero (drop 2 a))) (Address.refused EAFNOSUPPORT)) ≡ Address.path p → p ≡ up_to_zero (drop 2 a)
+    go true d q = absurd (let z : ◌≡◌ {A = ℕ} 0 1 = cc in omega arith)
+    go false true q = path_named (up_to_zero (drop 2 a)) p q
+    go false false q = absurd (let z : ◌≡◌ {A = ℕ} 0 1 = cc in omega arith)
+
 -- a path shows itself, and a refused address an empty part; r is what `path` answers, and `now` the bytes of a part
 pub shown : (a : List ℕ) {B : Type 0} (now : B → List ℕ) (r : Result B Errno) (d : B)
     → MatchResult r (λ p. address_of a ≡ Address.path (now p)) (λ e. address_of a ≡ Address.refused e) → now d ≡ [] → now (result_unwrap_or r d) ≡ path_in (address_of a)

@@ -9,7 +9,7 @@ ghost use Rattle.bench_exports.specs.Checking.{check_no};
 ghost use Rattle.bench_exports.specs.Numbers.{numbers_in, listed};
 
 use inbox::{AttachedItems, Inbox};
-use words::{Errno, Verdict};
+use words::Errno;
 
 #[repr(C)]
 #[derive(Clone, Copy)]

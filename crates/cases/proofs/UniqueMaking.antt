@@ -32,9 +32,9 @@ never-zero Errno.SHORT z = omega arith
 never-zero Errno.DAMAGED z = omega arith
 
 pub one_verdict : (v u : Result Unit Errno) → refusal_of v ≡ refusal_of u → v ≡ u
-one_verdict (Ok tt) (Ok tt) e = refl
-one_verdict (Ok tt) (Err y) e = absurd (never-zero y (sym e))
-one_verdict (Err x) (Ok tt) e = absurd (never-zero x e)
+one_verdict (Ok _) (Ok _) e = refl
+one_verdict (Ok _) (Err y) e = absurd (never-zero y (sym e))
+one_verdict (Err x) (Ok _) e = absurd (never-zero x e)
 one_verdict (Err x) (Err y) e = ap Err (one_name x y e)
 
 pub one_making : (n c : ℕ) (s s₁ s₂ : Store) (r₁ r₂ : Result Unit Errno) → Makes n c s s₁ r₁ → Makes n c s s₂ r₂ → (r₁ ≡ r₂) × (s₁ ≡ s₂)
