@@ -128,6 +128,7 @@ pub extern "C" fn eid_scm_rights(fd_count: u64) -> EidHeader
 }
 
 #[unsafe(no_mangle)]
+#[tactic(auto, unfolding(crate::specs::Numbers::count_number))]
 pub extern "C" fn eid_scm_rights_count(
     cmsg_len: u64,
     cmsg_level: i32,
@@ -147,20 +148,23 @@ pub extern "C" fn eid_scm_rights_count(
 }
 
 #[unsafe(no_mangle)]
+#[tactic(auto, unfolding(crate::specs::Numbers::asked))]
 pub extern "C" fn eid_iovec_count(hdr: &[u8]) -> EidNumber
     ensures { result ≡ numbers (asked iovec_count_of (message_of hdr.now)) }
 {
-    MsgHdr::read(hdr).and_then(MsgHdr::iovec_count).into()
+    MsgHdr::read(hdr).and_then(|hdr| hdr.iovec_count()).into()
 }
 
 #[unsafe(no_mangle)]
+#[tactic(auto, unfolding(crate::specs::Numbers::asked))]
 pub extern "C" fn eid_control_len(hdr: &[u8]) -> EidNumber
     ensures { result ≡ numbers (asked control_len_of (message_of hdr.now)) }
 {
-    MsgHdr::read(hdr).and_then(MsgHdr::control_len).into()
+    MsgHdr::read(hdr).and_then(|hdr| hdr.control_len()).into()
 }
 
 #[unsafe(no_mangle)]
+#[tactic(auto, unfolding(crate::specs::Numbers::how_number))]
 pub extern "C" fn eid_shutdown_how(how: i32) -> EidNumber
     ensures { result ≡ numbers (how_number (how_of how)) }
 {
