@@ -1,5 +1,5 @@
 -- What the small functions leave at each return.
-use Rattle.std.proofs.Common.{◌≡◌, ℕ, zero, suc, ◌+◌, ◌-◌, ◌%◌, ◌^◌, ◌<◌, ◌≤◌, min, Bool, true, false, cond, ◌&&◌, eqb, ltb, leb, ◌≢◌, ◌⊎◌, List, ◌∷◌, ◌++◌, length, get_or, take, drop, replicate, sym, refl, ap, ◌∙◌, ap₂, inl, inr, add-one, arith, length-drop, length-take-le, drop-cons, ltb-false, le-ltb, lt-ltb, eq-eqb, ne_eqb, le-leb}
+use Rattle.std.proofs.Common.{◌≡◌, ℕ, zero, suc, ◌+◌, ◌-◌, ◌%◌, ◌^◌, ◌<◌, ◌≤◌, min, Bool, true, false, cond, ◌&&◌, eqb, ltb, leb, ◌≢◌, ◌⊎◌, List, [], ◌∷◌, ◌++◌, length, get_or, take, drop, replicate, sym, refl, ap, ◌∙◌, ap₂, inl, inr, add-one, arith, length-drop, length-take-le, drop-cons, ltb-false, le-ltb, lt-ltb, eq-eqb, ne_eqb, le-leb}
 use lib.ListN.{drop_of_length-le}
 use lib.Seq.{sets, sets-eq, paste, take-length, take-take, drop-length}
 use borrow.Rule.Slice.PartMut.{put_mid}
@@ -19,7 +19,7 @@ use Rattle.inbox.specs.declared.Inbox.{Inbox}
 use Rattle.inbox.specs.declared.AttachedItems.{AttachedItems}
 use Rattle.inbox.specs.declared.AttachedItems.TheVariants.{Take, Drop}
 use Rattle.inbox.proofs.Offsets.{dist_meets}
-use Rattle.inbox.proofs.Shows.{push_shows, moved_is, reach_le, bytes_first, take-least, take-shows, taken_group}
+use Rattle.inbox.proofs.Shows.{length-distances, push_shows, moved_is, reach_le, bytes_first, take-least, take-shows, taken_group}
 
 never : (n : ℕ) → suc n ≢ 0
 never n e = omega arith
@@ -90,48 +90,55 @@ distance_at q places i p d l fit hg ep ed =
     ∙ ap (λ (x : ℕ). dist x q.read_total) (sym (queued_at places q.first (omega arith) q.items i p hg (omega arith) (rw l (place_is 256 (q.first + i) p ep))))
     ∙ sym (get_or-map (λ x. dist x q.read_total) (queued places q.first q.items) i 0 0 (omega (arith, queued-length places q.first (omega arith) q.items (omega arith))))
 
--- d is the one at i
-module _ (ds : List ℕ) (i d : ℕ) (h : i < length ds) (e : d ≡ get_or ds i 0) where
-  left_at : drop i ds ≡ d ∷ drop (i + 1) ds
-  left_at = drop-cons ds i 0 h ∙ ap₂ (λ (x k : ℕ). x ∷ drop k ds) (sym e) (sym (add-one i))
+module _ (q : Inbox) (places : List ℕ) (i : ℕ) (l : length places ≡ 256) (fit : ItemsFit q) where
+  long : length (distances q places) ≡ q.items
+  long = length-distances places q l fit.0 fit.1
 
-  pub group_goes_on : front ds ≡ i + front (drop i ds) → d ≡ 0 → front ds ≡ i + 1 + front (drop (i + 1) ds)
-  unfolding front
-  group_goes_on so z = let more : front (drop i ds) ≡ suc (front (drop (i + 1) ds)) = ap front left_at ∙ rw (eq-eqb d 0 z) in omega arith
+  -- d is the one at i
+  module _ (d : ℕ) (hg : i < q.items) (e : d ≡ get_or (distances q places) i 0) where
+    left_at : drop i (distances q places) ≡ d ∷ drop (i + 1) (distances q places)
+    left_at = drop-cons (distances q places) i 0 (omega (arith, long)) ∙ ap₂ (λ (x k : ℕ). x ∷ drop k (distances q places)) (sym e) (sym (add-one i))
 
-  pub group_stops : front ds ≡ i + front (drop i ds) → (d ≡ 0 → ⊥) → i ≡ front ds
-  unfolding front
-  group_stops so ne = let none : front (drop i ds) ≡ 0 = ap front left_at ∙ rw (ne_eqb d 0 ne) in omega arith
+    pub group_goes_on : front (distances q places) ≡ i + front (drop i (distances q places)) → d ≡ 0 → front (distances q places) ≡ i + 1 + front (drop (i + 1) (distances q places))
+    unfolding front
+    group_goes_on so z = let more : front (drop i (distances q places)) ≡ suc (front (drop (i + 1) (distances q places))) = ap front left_at ∙ rw (eq-eqb d 0 z) in omega arith
 
-  pub reach_next : (n : ℕ) → d ≡ nearest n (drop i ds)
-  unfolding nearest
-  reach_next n = sym (ap (nearest n) left_at)
+    pub group_stops : front (distances q places) ≡ i + front (drop i (distances q places)) → (d ≡ 0 → ⊥) → (i ≡ front (distances q places)) × (i ≤ q.items)
+    unfolding front
+    group_stops so ne = let none : front (drop i (distances q places)) ≡ 0 = ap front left_at ∙ rw (ne_eqb d 0 ne) in (omega arith, omega arith)
 
-  pub rises_on : (low n : ℕ) → low ≤ d → d < n → rises low n (drop i ds) ≡ rises d n (drop (i + 1) ds)
-  unfolding rises
-  rises_on low n a b = ap (rises low n) left_at ∙ rw (le-leb low d a, lt-ltb d n b)
+    pub reach_next : (n : ℕ) → d ≡ nearest n (drop i (distances q places))
+    unfolding nearest
+    reach_next n = sym (ap (nearest n) left_at)
 
-  pub falls : (low n : ℕ) → d < low → false ≡ rises low n (drop i ds)
-  unfolding rises
-  falls low n a = sym (ap (rises low n) left_at ∙ rw (lt-leb low d a))
+    pub rises_on : (low n : ℕ) → low ≤ d → d < n → rises low n (drop i (distances q places)) ≡ rises d n (drop (i + 1) (distances q places))
+    unfolding rises
+    rises_on low n a b = ap (rises low n) left_at ∙ rw (le-leb low d a, lt-ltb d n b)
 
-  pub beyond : (low n : ℕ) → low ≤ d → n ≤ d → false ≡ rises low n (drop i ds)
-  unfolding rises
-  beyond low n a b = sym (ap (rises low n) left_at ∙ rw (le-leb low d a, le-ltb d n b))
+    pub falls : (low n : ℕ) → d < low → false ≡ rises low n (drop i (distances q places))
+    unfolding rises
+    falls low n a = sym (ap (rises low n) left_at ∙ rw (lt-leb low d a))
 
--- none is left
-module _ (ds : List ℕ) (i : ℕ) (h : length ds ≤ i) where
-  pub group_ends : front ds ≡ i + front (drop i ds) → i ≡ front ds
-  unfolding front
-  group_ends so = let none : front (drop i ds) ≡ 0 = ap front (drop_of_length-le ds h) in omega arith
+    pub beyond : (low n : ℕ) → low ≤ d → n ≤ d → false ≡ rises low n (drop i (distances q places))
+    unfolding rises
+    beyond low n a b = sym (ap (rises low n) left_at ∙ rw (le-leb low d a, le-ltb d n b))
 
-  pub reach_end : (n : ℕ) → n ≡ nearest n (drop i ds)
-  unfolding nearest
-  reach_end n = sym (ap (nearest n) (drop_of_length-le ds h))
+  -- none is left
+  module _ (h : q.items ≤ i) where
+    left_none : drop i (distances q places) ≡ []
+    left_none = drop_of_length-le (distances q places) (omega (arith, long))
 
-  pub rises_end : (low n : ℕ) → true ≡ rises low n (drop i ds)
-  unfolding rises
-  rises_end low n = sym (ap (rises low n) (drop_of_length-le ds h))
+    pub group_ends : front (distances q places) ≡ i + front (drop i (distances q places)) → i ≤ q.items → (q.items ≡ front (distances q places)) × (q.items ≤ q.items)
+    unfolding front
+    group_ends so k = let none : front (drop i (distances q places)) ≡ 0 = ap front left_none in (omega arith, omega arith)
+
+    pub reach_end : (n r : ℕ) → r ≡ n → r ≡ nearest n (drop i (distances q places))
+    unfolding nearest
+    reach_end n r e = e ∙ sym (ap (nearest n) left_none)
+
+    pub rises_end : (low n : ℕ) → true ≡ rises low n (drop i (distances q places))
+    unfolding rises
+    rises_end low n = sym (ap (rises low n) left_none)
 
 -- ── The refusals of a push ──
 

@@ -66,6 +66,7 @@ pub struct Taken {
     pub moved: usize,
     pub items: usize,
     pub released: usize,
+    // Stays: the C interface, a recvmsg's flags.
     pub flags: u32,
     pub inbox: Inbox,
 }
@@ -77,10 +78,10 @@ pub struct Discarded {
 }
 
 impl Inbox {
-    pub fn new() -> Inbox
+    pub fn new() -> Self
         ensures { result ≡ none }
     {
-        Inbox::default()
+        Self::default()
     }
 
     // How many bytes are queued.
@@ -121,6 +122,7 @@ impl Inbox {
     }
 
     // Appends what fits of `buf`, and attaches the items to its first byte.
+    #[tactic(auto, using(crate::proofs::Parts::may_fit))]
     pub fn push(
         self,
         ring: &mut [u8],
@@ -154,6 +156,7 @@ impl Inbox {
     // Removes the group at the first queued byte, and moves bytes up to the next group. `policy`
     // says where the group goes: to `items` as far as that has room, the rest to `releases`; or all
     // of it to `releases`.
+    #[tactic(auto, using(crate::proofs::Shows::reach_le, crate::proofs::Parts::handed_few))]
     pub fn take(
         self,
         ring: &[u8],
@@ -249,7 +252,8 @@ impl Inbox {
 
     // Drops all bytes of an inbox of `c`; all items go to `releases`, from `at` on.
     pub fn discard(self, c: usize, tokens: &[u32], releases: &mut [u32], at: usize) -> Discarded
-        requires inbox_in { (self.head < c) × (count self ≤ c) × (c ≤ 65536) × (self.first < 256) × (self.items ≤ 256) }
+        requires inbox_in { (self.head < c) × (count self ≤ c) × (c ≤ 65536) }
+        requires items_in { ItemsFit self }
         requires lists_room { (length tokens.now ≡ 256) × (at + self.items ≤ length releases.old) }
         ensures { Discards c tokens.now releases.old releases.new at self result }
     {
@@ -293,6 +297,7 @@ impl Inbox {
 }
 
 // The place of entry `k` in the rings of the items: `ring::place` for 256, in one operation.
+// Stays: tried, `ring::place(256, k)` misses the bar of 1 ns for each item that the check looks at.
 fn place(k: usize) -> usize
     requires { k < 512 }
     ensures { (result ≡ place_of 256 k) × (result < 256) }
