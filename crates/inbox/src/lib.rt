@@ -171,8 +171,12 @@ impl Inbox {
         requires rings { (length ring.now ≤ 65536) × (length places.now ≡ 256) × (length tokens.now ≡ 256) × (256 ≤ length releases.old) }
         ensures { Takes ring.now places.now tokens.now buf.old buf.new (policy_of policy (length items.old)) items.old items.new releases.old releases.new self result }
     {
-        let g = self.group(places);
-        let k = buf.len().min(self.reach(places, g));
+        let entries = Entries {
+            inbox: self,
+            places,
+        };
+        let g = entries.group();
+        let k = buf.len().min(entries.reach(g));
         let m = policy.handed(g, items.len());
         ring::read(ring, self.head, &mut buf[..k]);
         self.hand_over(tokens, g, m, items, releases);
@@ -182,43 +186,6 @@ impl Inbox {
             released: g - m,
             flags: policy.flags(g, m),
             inbox: self.moved_on(ring.len(), k, g),
-        }
-    }
-
-    // How far the byte that carries the item `i` lies behind the first queued byte.
-    fn distance_of(self, places: &[u64], i: usize) -> usize
-        requires items_in { ItemsFit self }
-        requires ring { length places.now ≡ 256 }
-        requires item { i < self.items }
-        ensures { result ≡ slice_index (distances self places.now) i }
-    {
-        distance(places[place(self.first + i)], self.read_total)
-    }
-
-    // How many items are attached to the first queued byte.
-    fn group(self, places: &[u64]) -> usize
-        requires items_in { ItemsFit self }
-        requires ring { length places.now ≡ 256 }
-        ensures { (result ≡ front (distances self places.now)) × (result ≤ self.items) }
-    {
-        for i in 0..self.items {
-            if self.distance_of(places, i) != 0 {
-                return i;
-            }
-        }
-        self.items
-    }
-
-    // How far it is to the byte that carries the item `g`, or to the end where there is none.
-    fn reach(self, places: &[u64], g: usize) -> usize
-        requires items_in { ItemsFit self }
-        requires ring { length places.now ≡ 256 }
-        ensures { result ≡ nearest (count self) (drop g (distances self places.now)) }
-    {
-        if g < self.items {
-            self.distance_of(places, g)
-        } else {
-            self.queued()
         }
     }
 
@@ -275,18 +242,66 @@ impl Inbox {
             && self.queued() <= c
             && self.first < 256
             && self.items <= MAX_PENDING_ATTACHED
-            && self.rising(places)
+            && Entries {
+                inbox: self,
+                places,
+            }
+            .rise()
+    }
+}
+
+// The entries of an inbox's items in the ring of their places.
+#[derive(Clone, Copy)]
+struct Entries<'a> {
+    inbox: Inbox,
+    places: &'a [u64],
+    ghost items_in: { ItemsFit inbox },
+    ghost all_places: { length places.now ≡ 256 },
+}
+
+impl Entries<'_> {
+    // How far the byte that carries the item `i` lies behind the first queued byte.
+    fn distance(&self, i: usize) -> usize
+        requires { i < self.now.inbox.items }
+        ensures { result ≡ slice_index (distances self.now.inbox self.now.places.now) i }
+    {
+        distance(
+            self.places[place(self.inbox.first + i)],
+            self.inbox.read_total,
+        )
     }
 
-    fn rising(self, places: &[u64]) -> bool
-        requires items_in { ItemsFit self }
-        requires ring { length places.now ≡ 256 }
-        ensures { result ≡ rises 0 (count self) (distances self places.now) }
+    // How many items are attached to the first queued byte.
+    fn group(&self) -> usize
+        ensures { (result ≡ front (distances self.now.inbox self.now.places.now)) × (result ≤ self.now.inbox.items) }
     {
-        let n = self.queued();
+        for i in 0..self.inbox.items {
+            if self.distance(i) != 0 {
+                return i;
+            }
+        }
+        self.inbox.items
+    }
+
+    // How far it is to the byte that carries the item `g`, or to the end where there is none.
+    fn reach(&self, g: usize) -> usize
+        ensures { result ≡ nearest (count self.now.inbox) (drop g (distances self.now.inbox self.now.places.now)) }
+    {
+        if g < self.inbox.items {
+            self.distance(g)
+        } else {
+            self.inbox.queued()
+        }
+    }
+
+    // The places rise inside the queued bytes.
+    fn rise(&self) -> bool
+        ensures { result ≡ rises 0 (count self.now.inbox) (distances self.now.inbox self.now.places.now) }
+    {
+        let n = self.inbox.queued();
         let mut low = 0;
-        for i in 0..self.items {
-            let d = self.distance_of(places, i);
+        for i in 0..self.inbox.items {
+            let d = self.distance(i);
             if d < low || n <= d {
                 return false;
             }

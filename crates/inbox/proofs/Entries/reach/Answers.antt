@@ -1,5 +1,5 @@
 use Rattle.inbox.proofs.Parts.{reach_next, reach_end}
-use Rattle.inbox.proofs.Inbox.reach.Goals as goal
+use Rattle.inbox.proofs.Entries.reach.Goals as goal
 
 pub returns-then-g-self : goal.returns-then-g-self
 returns-then-g-self c = search reach_next
