@@ -1,13 +1,16 @@
 -- What the small functions leave at each return.
-use Rattle.std.proofs.Common.{◌≡◌, ℕ, zero, suc, ◌+◌, ◌-◌, ◌%◌, ◌^◌, ◌<◌, ◌≤◌, min, Bool, true, false, cond, ◌&&◌, eqb, ltb, leb, ◌≢◌, ◌⊎◌, List, [], ◌∷◌, ◌++◌, length, get_or, take, drop, replicate, sym, refl, ap, ◌∙◌, ap₂, inl, inr, add-one, arith, length-drop, length-take-le, drop-cons, ltb-false, le-ltb, lt-ltb, eq-eqb, ne_eqb, le-leb}
+use Rattle.std.proofs.Common.{not-suc-le-zero, zero-add, Option, Some, None, MatchOption, ◌≡◌, ℕ, zero, suc, ◌+◌, ◌-◌, ◌%◌, ◌^◌, ◌<◌, ◌≤◌, min, Bool, true, false, cond, ◌&&◌, eqb, ltb, leb, ◌≢◌, ◌⊎◌, List, [], ◌∷◌, ◌++◌, length, get_or, take, drop, replicate, sym, refl, ap, ◌∙◌, ap₂, inl, inr, add-one, arith, length-drop, length-take-le, drop-cons, ltb-false, le-ltb, lt-ltb, eq-eqb, ne_eqb, le-leb}
 use lib.ListN.{drop_of_length-le}
 use lib.Seq.{sets, sets-eq, paste, take-length, take-take, drop-length}
 use borrow.Rule.Slice.PartMut.{put_mid}
 use Rattle.std.proofs.lemmas.List.{get_or-map}
+use Rattle.std.proofs.lemmas.List.FromFn.{length-range_with_len, get_or-range_with_len}
+use Rattle.std.specs.List.{range_with_len, AllWithin, HoldsAt}
+use Rattle.std.specs.Option.{unwrap_or}
 use Rattle.std.proofs.lemmas.Slice.{put_mid-paste}
 use borrow.Author.Tests.{lt-leb}
 use Rattle.ring.specs.Ring.{place_of, queued, whole}
-use Rattle.ring.proofs.Queued.{queued-length, queued-take, queued-drop, queued_at}
+use Rattle.ring.proofs.Queued.{by_order, queued-length, queued-take, queued-drop, queued_at}
 use Rattle.ring.proofs.Copying.{place_low, place_high, place_is}
 use Rattle.laws.proofs.Tests.{less_or}
 use Rattle.rules.specs.Inbox.{group, moved}
@@ -99,14 +102,6 @@ module _ (q : Inbox) (places : List ℕ) (i : ℕ) (l : length places ≡ 256) (
     left_at : drop i (distances q places) ≡ d ∷ drop (i + 1) (distances q places)
     left_at = drop-cons (distances q places) i 0 (omega (arith, long)) ∙ ap₂ (λ (x k : ℕ). x ∷ drop k (distances q places)) (sym e) (sym (add-one i))
 
-    pub group_goes_on : front (distances q places) ≡ i + front (drop i (distances q places)) → d ≡ 0 → front (distances q places) ≡ i + 1 + front (drop (i + 1) (distances q places))
-    unfolding front
-    group_goes_on so z = let more : front (drop i (distances q places)) ≡ suc (front (drop (i + 1) (distances q places))) = ap front left_at ∙ rw (eq-eqb d 0 z) in omega arith
-
-    pub group_stops : front (distances q places) ≡ i + front (drop i (distances q places)) → (d ≡ 0 → ⊥) → (i ≡ front (distances q places)) × (i ≤ q.items)
-    unfolding front
-    group_stops so ne = let none : front (drop i (distances q places)) ≡ 0 = ap front left_at ∙ rw (ne_eqb d 0 ne) in (omega arith, omega arith)
-
     pub reach_next : (n : ℕ) → d ≡ nearest n (drop i (distances q places))
     unfolding nearest
     reach_next n = sym (ap (nearest n) left_at)
@@ -128,10 +123,6 @@ module _ (q : Inbox) (places : List ℕ) (i : ℕ) (l : length places ≡ 256) (
     left_none : drop i (distances q places) ≡ []
     left_none = drop_of_length-le (distances q places) (omega (arith, long))
 
-    pub group_ends : front (distances q places) ≡ i + front (drop i (distances q places)) → i ≤ q.items → (q.items ≡ front (distances q places)) × (q.items ≤ q.items)
-    unfolding front
-    group_ends so k = let none : front (drop i (distances q places)) ≡ 0 = ap front left_none in (omega arith, omega arith)
-
     pub reach_end : (n r : ℕ) → r ≡ n → r ≡ nearest n (drop i (distances q places))
     unfolding nearest
     reach_end n r e = e ∙ sym (ap (nearest n) left_none)
@@ -139,6 +130,45 @@ module _ (q : Inbox) (places : List ℕ) (i : ℕ) (l : length places ≡ 256) (
     pub rises_end : (low n : ℕ) → true ≡ rises low n (drop i (distances q places))
     unfolding rises
     rises_end low n = sym (ap (rises low n) left_none)
+
+-- ── The group ──
+
+-- k of 0 in front
+front_more : (ds : List ℕ) (k : ℕ) → k ≤ length ds → ((j : ℕ) → j < k → get_or ds j 0 ≡ 0) → front ds ≡ k + front (drop k ds)
+unfolding front
+front_more ds zero h z = omega arith
+front_more [] (suc k) h z = absurd (not-suc-le-zero h)
+front_more (d ∷ ds) (suc k) h z =
+    let e : d ≡ 0 = z 0 (omega arith) in
+    let more : front ds ≡ k + front (drop k ds) = front_more ds k (omega arith) (λ j u. z (suc j) (omega arith)) in
+    rw (eq-eqb d 0 e) (omega arith)
+
+-- the first that is not 0 ends it, or the end
+front_ends : (ds : List ℕ) (k : ℕ) → k ≤ length ds → (k < length ds → get_or ds k 0 ≢ 0) → front (drop k ds) ≡ 0
+unfolding front
+front_ends ds k h ne =
+    by_order k (length ds)
+    (λ lo. ap front (drop-cons ds k 0 lo) ∙ rw (ne_eqb (get_or ds k 0) 0 (ne lo)))
+    (λ up. ap front (drop_of_length-le ds up))
+
+group_at : (ds : List ℕ) (n k : ℕ) → length ds ≡ n → k ≤ n → AllWithin (λ i. get_or ds i 0 ≡ 0) (range_with_len 0 n) 0 k → (k < n → get_or ds k 0 ≢ 0) → k ≡ front ds
+group_at ds n k l h z ne =
+    let more = front_more ds k (omega arith) (λ j u. ap (λ (i : ℕ). get_or ds i 0) (sym (get_or-range_with_len 0 n j 0 (omega arith) ∙ zero-add j)) ∙ z j 0 (omega arith) u) in
+    let ends = front_ends ds k (omega arith) (λ lo. ne (omega arith)) in
+    omega arith
+
+-- what a search for the first that is not 0 found
+pub group_found : (ds : List ℕ) (n g : ℕ) (r : Option ℕ) → length ds ≡ n
+    → MatchOption r (AllWithin (λ i. get_or ds i 0 ≡ 0) (range_with_len 0 n) 0 (length (range_with_len 0 n)))
+    (λ k. (k < length (range_with_len 0 n)) × HoldsAt (λ i. get_or ds i 0 ≢ 0) (range_with_len 0 n) k × AllWithin (λ i. get_or ds i 0 ≡ 0) (range_with_len 0 n) 0 k)
+    → g ≡ unwrap_or r n → (g ≡ front ds) × (g ≤ n)
+group_found ds n g None l z e =
+    let here = group_at ds n n l (omega arith) (λ j d x u. z j d x (omega (arith, length-range_with_len 0 n))) (λ lo. absurd (omega arith)) in
+    (omega arith, omega arith)
+group_found ds n g (Some k) l f e =
+    let lo : k < n = omega (arith, f.0, length-range_with_len 0 n) in
+    let here = group_at ds n k l (omega arith) f.2 (λ _ z. f.1 0 (ap (λ (i : ℕ). get_or ds i 0) (get_or-range_with_len 0 n k 0 lo ∙ zero-add k) ∙ z)) in
+    (omega arith, omega arith)
 
 -- ── The refusals of a push ──
 

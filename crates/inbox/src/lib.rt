@@ -275,12 +275,9 @@ impl Entries<'_> {
     fn group(&self) -> usize
         ensures { (result ≡ front (distances self.now.inbox self.now.places.now)) × (result ≤ self.now.inbox.items) }
     {
-        for i in 0..self.inbox.items {
-            if self.distance(i) != 0 {
-                return i;
-            }
-        }
-        self.inbox.items
+        (0..self.inbox.items)
+            .position(|i| self.distance(i) != 0)
+            .unwrap_or(self.inbox.items)
     }
 
     // How far it is to the byte that carries the item `g`, or to the end where there is none.
