@@ -84,7 +84,8 @@ pub fn fill<T: Copy>(ring: &mut [T], head: usize, n: usize, v: T, k: usize)
     }
 }
 
-// All of one straight run is `v`.
+// All of one straight run is `v`. A slice's own `fill` asks that a clone of `v` cannot fail, which
+// `T: Copy` does not say.
 fn fill_run<T: Copy>(run: &mut [T], v: T)
     ensures { run.new ≡ replicate (length run.old) v }
 {
