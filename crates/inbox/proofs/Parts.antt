@@ -1,13 +1,16 @@
 -- What the small functions leave at each return.
-use Rattle.std.proofs.Common.{◌≡◌, ℕ, zero, suc, ◌+◌, ◌-◌, ◌%◌, ◌^◌, ◌<◌, ◌≤◌, min, Bool, true, false, cond, ◌&&◌, eqb, ltb, leb, ◌≢◌, ◌⊎◌, List, ◌∷◌, ◌++◌, length, get_or, take, drop, replicate, sym, refl, ap, ◌∙◌, ap₂, inl, inr, add-one, arith, length-drop, length-take-le, drop-cons, ltb-false, le-ltb, lt-ltb, eq-eqb, ne_eqb, le-leb}
+use Rattle.std.proofs.Common.{not-suc-le-zero, zero-add, Option, Some, None, MatchOption, ◌≡◌, ℕ, zero, suc, ◌+◌, ◌-◌, ◌%◌, ◌^◌, ◌<◌, ◌≤◌, min, Bool, true, false, cond, ◌&&◌, eqb, ltb, leb, ◌≢◌, ◌⊎◌, List, [], ◌∷◌, ◌++◌, length, get_or, take, drop, replicate, sym, refl, ap, ◌∙◌, ap₂, inl, inr, add-one, arith, length-drop, length-take-le, drop-cons, ltb-false, le-ltb, lt-ltb, eq-eqb, ne_eqb, le-leb}
 use lib.ListN.{drop_of_length-le}
 use lib.Seq.{sets, sets-eq, paste, take-length, take-take, drop-length}
 use borrow.Rule.Slice.PartMut.{put_mid}
 use Rattle.std.proofs.lemmas.List.{get_or-map}
+use Rattle.std.proofs.lemmas.List.FromFn.{length-range_with_len, get_or-range_with_len}
+use Rattle.std.specs.List.{range_with_len, AllWithin, HoldsAt}
+use Rattle.std.specs.Option.{unwrap_or}
 use Rattle.std.proofs.lemmas.Slice.{put_mid-paste}
 use borrow.Author.Tests.{lt-leb}
 use Rattle.ring.specs.Ring.{place_of, queued, whole}
-use Rattle.ring.proofs.Queued.{queued-length, queued-take, queued-drop, queued_at}
+use Rattle.ring.proofs.Queued.{by_order, queued-length, queued-take, queued-drop, queued_at}
 use Rattle.ring.proofs.Copying.{place_low, place_high, place_is}
 use Rattle.laws.proofs.Tests.{less_or}
 use Rattle.rules.specs.Inbox.{group, moved}
@@ -19,7 +22,7 @@ use Rattle.inbox.specs.declared.Inbox.{Inbox}
 use Rattle.inbox.specs.declared.AttachedItems.{AttachedItems}
 use Rattle.inbox.specs.declared.AttachedItems.TheVariants.{Take, Drop}
 use Rattle.inbox.proofs.Offsets.{dist_meets}
-use Rattle.inbox.proofs.Shows.{push_shows, moved_is, reach_le, bytes_first, take-least, take-shows, taken_group}
+use Rattle.inbox.proofs.Shows.{length-distances, push_shows, moved_is, reach_le, bytes_first, take-least, take-shows, taken_group}
 
 never : (n : ℕ) → suc n ≢ 0
 never n e = omega arith
@@ -90,48 +93,82 @@ distance_at q places i p d l fit hg ep ed =
     ∙ ap (λ (x : ℕ). dist x q.read_total) (sym (queued_at places q.first (omega arith) q.items i p hg (omega arith) (rw l (place_is 256 (q.first + i) p ep))))
     ∙ sym (get_or-map (λ x. dist x q.read_total) (queued places q.first q.items) i 0 0 (omega (arith, queued-length places q.first (omega arith) q.items (omega arith))))
 
--- d is the one at i
-module _ (ds : List ℕ) (i d : ℕ) (h : i < length ds) (e : d ≡ get_or ds i 0) where
-  left_at : drop i ds ≡ d ∷ drop (i + 1) ds
-  left_at = drop-cons ds i 0 h ∙ ap₂ (λ (x k : ℕ). x ∷ drop k ds) (sym e) (sym (add-one i))
+module _ (q : Inbox) (places : List ℕ) (i : ℕ) (l : length places ≡ 256) (fit : ItemsFit q) where
+  long : length (distances q places) ≡ q.items
+  long = length-distances places q l fit.0 fit.1
 
-  pub group_goes_on : front ds ≡ i + front (drop i ds) → d ≡ 0 → front ds ≡ i + 1 + front (drop (i + 1) ds)
-  unfolding front
-  group_goes_on so z = let more : front (drop i ds) ≡ suc (front (drop (i + 1) ds)) = ap front left_at ∙ rw (eq-eqb d 0 z) in omega arith
+  -- d is the one at i
+  module _ (d : ℕ) (hg : i < q.items) (e : d ≡ get_or (distances q places) i 0) where
+    left_at : drop i (distances q places) ≡ d ∷ drop (i + 1) (distances q places)
+    left_at = drop-cons (distances q places) i 0 (omega (arith, long)) ∙ ap₂ (λ (x k : ℕ). x ∷ drop k (distances q places)) (sym e) (sym (add-one i))
 
-  pub group_stops : front ds ≡ i + front (drop i ds) → (d ≡ 0 → ⊥) → i ≡ front ds
-  unfolding front
-  group_stops so ne = let none : front (drop i ds) ≡ 0 = ap front left_at ∙ rw (ne_eqb d 0 ne) in omega arith
+    pub reach_next : (n : ℕ) → d ≡ nearest n (drop i (distances q places))
+    unfolding nearest
+    reach_next n = sym (ap (nearest n) left_at)
 
-  pub reach_next : (n : ℕ) → d ≡ nearest n (drop i ds)
-  unfolding nearest
-  reach_next n = sym (ap (nearest n) left_at)
+    pub rises_on : (low n : ℕ) → low ≤ d → d < n → rises low n (drop i (distances q places)) ≡ rises d n (drop (i + 1) (distances q places))
+    unfolding rises
+    rises_on low n a b = ap (rises low n) left_at ∙ rw (le-leb low d a, lt-ltb d n b)
 
-  pub rises_on : (low n : ℕ) → low ≤ d → d < n → rises low n (drop i ds) ≡ rises d n (drop (i + 1) ds)
-  unfolding rises
-  rises_on low n a b = ap (rises low n) left_at ∙ rw (le-leb low d a, lt-ltb d n b)
+    pub falls : (low n : ℕ) → d < low → false ≡ rises low n (drop i (distances q places))
+    unfolding rises
+    falls low n a = sym (ap (rises low n) left_at ∙ rw (lt-leb low d a))
 
-  pub falls : (low n : ℕ) → d < low → false ≡ rises low n (drop i ds)
-  unfolding rises
-  falls low n a = sym (ap (rises low n) left_at ∙ rw (lt-leb low d a))
+    pub beyond : (low n : ℕ) → low ≤ d → n ≤ d → false ≡ rises low n (drop i (distances q places))
+    unfolding rises
+    beyond low n a b = sym (ap (rises low n) left_at ∙ rw (le-leb low d a, le-ltb d n b))
 
-  pub beyond : (low n : ℕ) → low ≤ d → n ≤ d → false ≡ rises low n (drop i ds)
-  unfolding rises
-  beyond low n a b = sym (ap (rises low n) left_at ∙ rw (le-leb low d a, le-ltb d n b))
+  -- none is left
+  module _ (h : q.items ≤ i) where
+    left_none : drop i (distances q places) ≡ []
+    left_none = drop_of_length-le (distances q places) (omega (arith, long))
 
--- none is left
-module _ (ds : List ℕ) (i : ℕ) (h : length ds ≤ i) where
-  pub group_ends : front ds ≡ i + front (drop i ds) → i ≡ front ds
-  unfolding front
-  group_ends so = let none : front (drop i ds) ≡ 0 = ap front (drop_of_length-le ds h) in omega arith
+    pub reach_end : (n r : ℕ) → r ≡ n → r ≡ nearest n (drop i (distances q places))
+    unfolding nearest
+    reach_end n r e = e ∙ sym (ap (nearest n) left_none)
 
-  pub reach_end : (n : ℕ) → n ≡ nearest n (drop i ds)
-  unfolding nearest
-  reach_end n = sym (ap (nearest n) (drop_of_length-le ds h))
+    pub rises_end : (low n : ℕ) → true ≡ rises low n (drop i (distances q places))
+    unfolding rises
+    rises_end low n = sym (ap (rises low n) left_none)
 
-  pub rises_end : (low n : ℕ) → true ≡ rises low n (drop i ds)
-  unfolding rises
-  rises_end low n = sym (ap (rises low n) (drop_of_length-le ds h))
+-- ── The group ──
+
+-- k of 0 in front
+front_more : (ds : List ℕ) (k : ℕ) → k ≤ length ds → ((j : ℕ) → j < k → get_or ds j 0 ≡ 0) → front ds ≡ k + front (drop k ds)
+unfolding front
+front_more ds zero h z = omega arith
+front_more [] (suc k) h z = absurd (not-suc-le-zero h)
+front_more (d ∷ ds) (suc k) h z =
+    let e : d ≡ 0 = z 0 (omega arith) in
+    let more : front ds ≡ k + front (drop k ds) = front_more ds k (omega arith) (λ j u. z (suc j) (omega arith)) in
+    rw (eq-eqb d 0 e) (omega arith)
+
+-- the first that is not 0 ends it, or the end
+front_ends : (ds : List ℕ) (k : ℕ) → k ≤ length ds → (k < length ds → get_or ds k 0 ≢ 0) → front (drop k ds) ≡ 0
+unfolding front
+front_ends ds k h ne =
+    by_order k (length ds)
+    (λ lo. ap front (drop-cons ds k 0 lo) ∙ rw (ne_eqb (get_or ds k 0) 0 (ne lo)))
+    (λ up. ap front (drop_of_length-le ds up))
+
+group_at : (ds : List ℕ) (n k : ℕ) → length ds ≡ n → k ≤ n → AllWithin (λ i. get_or ds i 0 ≡ 0) (range_with_len 0 n) 0 k → (k < n → get_or ds k 0 ≢ 0) → k ≡ front ds
+group_at ds n k l h z ne =
+    let more = front_more ds k (omega arith) (λ j u. ap (λ (i : ℕ). get_or ds i 0) (sym (get_or-range_with_len 0 n j 0 (omega arith) ∙ zero-add j)) ∙ z j 0 (omega arith) u) in
+    let ends = front_ends ds k (omega arith) (λ lo. ne (omega arith)) in
+    omega arith
+
+-- what a search for the first that is not 0 found
+pub group_found : (ds : List ℕ) (n g : ℕ) (r : Option ℕ) → length ds ≡ n
+    → MatchOption r (AllWithin (λ i. get_or ds i 0 ≡ 0) (range_with_len 0 n) 0 (length (range_with_len 0 n)))
+    (λ k. (k < length (range_with_len 0 n)) × HoldsAt (λ i. get_or ds i 0 ≢ 0) (range_with_len 0 n) k × AllWithin (λ i. get_or ds i 0 ≡ 0) (range_with_len 0 n) 0 k)
+    → g ≡ unwrap_or r n → (g ≡ front ds) × (g ≤ n)
+group_found ds n g None l z e =
+    let here = group_at ds n n l (omega arith) (λ j d x u. z j d x (omega (arith, length-range_with_len 0 n))) (λ lo. absurd (omega arith)) in
+    (omega arith, omega arith)
+group_found ds n g (Some k) l f e =
+    let lo : k < n = omega (arith, f.0, length-range_with_len 0 n) in
+    let here = group_at ds n k l (omega arith) f.2 (λ _ z. f.1 0 (ap (λ (i : ℕ). get_or ds i 0) (get_or-range_with_len 0 n k 0 lo ∙ zero-add k) ∙ z)) in
+    (omega arith, omega arith)
 
 -- ── The refusals of a push ──
 

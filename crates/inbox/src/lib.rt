@@ -66,6 +66,7 @@ pub struct Taken {
     pub moved: usize,
     pub items: usize,
     pub released: usize,
+    // Stays: the C interface, a recvmsg's flags.
     pub flags: u32,
     pub inbox: Inbox,
 }
@@ -77,10 +78,10 @@ pub struct Discarded {
 }
 
 impl Inbox {
-    pub fn new() -> Inbox
+    pub fn new() -> Self
         ensures { result ≡ none }
     {
-        Inbox::default()
+        Self::default()
     }
 
     // How many bytes are queued.
@@ -121,6 +122,7 @@ impl Inbox {
     }
 
     // Appends what fits of `buf`, and attaches the items to its first byte.
+    #[tactic(auto, using(crate::proofs::Parts::may_fit))]
     pub fn push(
         self,
         ring: &mut [u8],
@@ -154,6 +156,7 @@ impl Inbox {
     // Removes the group at the first queued byte, and moves bytes up to the next group. `policy`
     // says where the group goes: to `items` as far as that has room, the rest to `releases`; or all
     // of it to `releases`.
+    #[tactic(auto, using(crate::proofs::Shows::reach_le, crate::proofs::Parts::handed_few))]
     pub fn take(
         self,
         ring: &[u8],
@@ -168,8 +171,12 @@ impl Inbox {
         requires rings { (length ring.now ≤ 65536) × (length places.now ≡ 256) × (length tokens.now ≡ 256) × (256 ≤ length releases.old) }
         ensures { Takes ring.now places.now tokens.now buf.old buf.new (policy_of policy (length items.old)) items.old items.new releases.old releases.new self result }
     {
-        let g = self.group(places);
-        let k = buf.len().min(self.reach(places, g));
+        let entries = Entries {
+            inbox: self,
+            places,
+        };
+        let g = entries.group();
+        let k = buf.len().min(entries.reach(g));
         let m = policy.handed(g, items.len());
         ring::read(ring, self.head, &mut buf[..k]);
         self.hand_over(tokens, g, m, items, releases);
@@ -179,43 +186,6 @@ impl Inbox {
             released: g - m,
             flags: policy.flags(g, m),
             inbox: self.moved_on(ring.len(), k, g),
-        }
-    }
-
-    // How far the byte that carries the item `i` lies behind the first queued byte.
-    fn distance_of(self, places: &[u64], i: usize) -> usize
-        requires items_in { ItemsFit self }
-        requires ring { length places.now ≡ 256 }
-        requires item { i < self.items }
-        ensures { result ≡ slice_index (distances self places.now) i }
-    {
-        distance(places[place(self.first + i)], self.read_total)
-    }
-
-    // How many items are attached to the first queued byte.
-    fn group(self, places: &[u64]) -> usize
-        requires items_in { ItemsFit self }
-        requires ring { length places.now ≡ 256 }
-        ensures { (result ≡ front (distances self places.now)) × (result ≤ self.items) }
-    {
-        for i in 0..self.items {
-            if self.distance_of(places, i) != 0 {
-                return i;
-            }
-        }
-        self.items
-    }
-
-    // How far it is to the byte that carries the item `g`, or to the end where there is none.
-    fn reach(self, places: &[u64], g: usize) -> usize
-        requires items_in { ItemsFit self }
-        requires ring { length places.now ≡ 256 }
-        ensures { result ≡ nearest (count self) (drop g (distances self places.now)) }
-    {
-        if g < self.items {
-            self.distance_of(places, g)
-        } else {
-            self.queued()
         }
     }
 
@@ -249,7 +219,8 @@ impl Inbox {
 
     // Drops all bytes of an inbox of `c`; all items go to `releases`, from `at` on.
     pub fn discard(self, c: usize, tokens: &[u32], releases: &mut [u32], at: usize) -> Discarded
-        requires inbox_in { (self.head < c) × (count self ≤ c) × (c ≤ 65536) × (self.first < 256) × (self.items ≤ 256) }
+        requires inbox_in { (self.head < c) × (count self ≤ c) × (c ≤ 65536) }
+        requires items_in { ItemsFit self }
         requires lists_room { (length tokens.now ≡ 256) × (at + self.items ≤ length releases.old) }
         ensures { Discards c tokens.now releases.old releases.new at self result }
     {
@@ -271,18 +242,63 @@ impl Inbox {
             && self.queued() <= c
             && self.first < 256
             && self.items <= MAX_PENDING_ATTACHED
-            && self.rising(places)
+            && Entries {
+                inbox: self,
+                places,
+            }
+            .rise()
+    }
+}
+
+// The entries of an inbox's items in the ring of their places.
+#[derive(Clone, Copy)]
+struct Entries<'a> {
+    inbox: Inbox,
+    places: &'a [u64],
+    ghost items_in: { ItemsFit inbox },
+    ghost all_places: { length places.now ≡ 256 },
+}
+
+impl Entries<'_> {
+    // How far the byte that carries the item `i` lies behind the first queued byte.
+    fn distance(&self, i: usize) -> usize
+        requires { i < self.now.inbox.items }
+        ensures { result ≡ slice_index (distances self.now.inbox self.now.places.now) i }
+    {
+        distance(
+            self.places[place(self.inbox.first + i)],
+            self.inbox.read_total,
+        )
     }
 
-    fn rising(self, places: &[u64]) -> bool
-        requires items_in { ItemsFit self }
-        requires ring { length places.now ≡ 256 }
-        ensures { result ≡ rises 0 (count self) (distances self places.now) }
+    // How many items are attached to the first queued byte.
+    fn group(&self) -> usize
+        ensures { (result ≡ front (distances self.now.inbox self.now.places.now)) × (result ≤ self.now.inbox.items) }
     {
-        let n = self.queued();
+        (0..self.inbox.items)
+            .position(|i| self.distance(i) != 0)
+            .unwrap_or(self.inbox.items)
+    }
+
+    // How far it is to the byte that carries the item `g`, or to the end where there is none.
+    fn reach(&self, g: usize) -> usize
+        ensures { result ≡ nearest (count self.now.inbox) (drop g (distances self.now.inbox self.now.places.now)) }
+    {
+        if g < self.inbox.items {
+            self.distance(g)
+        } else {
+            self.inbox.queued()
+        }
+    }
+
+    // The places rise inside the queued bytes.
+    fn rise(&self) -> bool
+        ensures { result ≡ rises 0 (count self.now.inbox) (distances self.now.inbox self.now.places.now) }
+    {
+        let n = self.inbox.queued();
         let mut low = 0;
-        for i in 0..self.items {
-            let d = self.distance_of(places, i);
+        for i in 0..self.inbox.items {
+            let d = self.distance(i);
             if d < low || n <= d {
                 return false;
             }
@@ -293,6 +309,7 @@ impl Inbox {
 }
 
 // The place of entry `k` in the rings of the items: `ring::place` for 256, in one operation.
+// Stays: tried, `ring::place(256, k)` misses the bar of 1 ns for each item that the check looks at.
 fn place(k: usize) -> usize
     requires { k < 512 }
     ensures { (result ≡ place_of 256 k) × (result < 256) }

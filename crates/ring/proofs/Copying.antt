@@ -1,7 +1,8 @@
 -- The turns of the straight runs, and the two ways in which a run of a ring comes out of it.
 use mathlib.Core.Path.{◌≡◌, refl, sym, ap, ap₂, ◌∙◌}
-use mathlib.Core.List.{List, [], ◌++◌, append_assoc, append-nil}
+use mathlib.Core.List.{List, [], ◌∷◌, ◌++◌, append_assoc, append-nil}
 use Prim.Native.Nat.{ℕ, ◌+◌, ◌-◌, ◌<◌, ◌≤◌}
+use native.Mathlib.Nat.{suc-ne-zero}
 use native.Mathlib.Omega.{arith}
 use borrow.Author.Tests.{lt-ltb, le-ltb}
 use lib.ListN.{length, take, drop, get_or, replicate, length-drop, length-replicate, drop_of_length-le}
@@ -75,6 +76,12 @@ fill_two r x y h n k p a v ep hh hn ea ha ex ey =
     (run_of (put_mid p a r x) y (k - a) (k - a) v ey (omega arith) (omega arith) ∙ ap (take (k - a)) (sym (drop-replicate a k v)))
 
 -- ── Out of a ring ──
+
+-- nothing
+pub out_none : {A : Type 0} (r b : List A) (h : ℕ) → length b ≡ 0 → b ≡ queued r h (length b)
+unfolding queued
+out_none r [] h e = refl
+out_none r (x ∷ b) h e = absurd (suc-ne-zero (length b) e)
 
 -- at most to the ring's end
 pub out_one : {A : Type 0} (r : List A) (h k m : ℕ) → m ≡ k → k ≤ length r - h → take m (drop h r) ≡ queued r h k

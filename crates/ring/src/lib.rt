@@ -33,6 +33,10 @@ pub fn write<T: Copy>(ring: &mut [T], head: usize, n: usize, src: &[T])
     requires room { n + length src.now ≤ length ring.old }
     ensures { whole ring.new head ≡ paste (whole ring.old head) n src.now (length src.now) }
 {
+    // A copy of none would still be a call, and most pushes have no items.
+    if src.is_empty() {
+        return;
+    }
     let p = place_behind(ring.len(), head, n);
     let room = ring.len() - p;
     let k = src.len();
@@ -50,6 +54,10 @@ pub fn read<T: Copy>(ring: &[T], head: usize, buf: &mut [T])
     requires enough { length buf.old ≤ length ring.now }
     ensures { buf.new ≡ queued ring.now head (length buf.old) }
 {
+    // As in `write`.
+    if buf.is_empty() {
+        return;
+    }
     let room = ring.len() - head;
     let k = buf.len();
     if k <= room {
@@ -76,7 +84,8 @@ pub fn fill<T: Copy>(ring: &mut [T], head: usize, n: usize, v: T, k: usize)
     }
 }
 
-// All of one straight run is `v`.
+// All of one straight run is `v`. A slice's own `fill` asks that a clone of `v` cannot fail, which
+// `T: Copy` does not say.
 fn fill_run<T: Copy>(run: &mut [T], v: T)
     ensures { run.new ≡ replicate (length run.old) v }
 {

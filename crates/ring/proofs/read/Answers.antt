@@ -1,6 +1,9 @@
-use Rattle.std.proofs.Common.{length, refl, ◌∙◌, arith}
-use Rattle.ring.proofs.Copying.{out_one, out_two}
+use Rattle.std.proofs.Common.{length, refl, ◌∙◌, arith, rules, tests}
+use Rattle.ring.proofs.Copying.{out_none, out_one, out_two}
 use Rattle.ring.proofs.read.Goals as goal
+
+pub returns-then-is_empty : goal.returns-then-is_empty
+returns-then-is_empty g c = search (out_none, rules, tests)
 
 pub returns-then-k-room : goal.returns-then-k-room
 returns-then-k-room g c =

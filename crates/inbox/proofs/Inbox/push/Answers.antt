@@ -1,25 +1,6 @@
-use Rattle.std.proofs.Common.{length, refl, arith, rules}
-use Rattle.inbox.specs.View.{count}
-use Rattle.inbox.proofs.Parts.{may_fit, pushes}
+use Rattle.std.proofs.Common.{refl, rules}
+use Rattle.inbox.proofs.Parts.{pushes}
 use Rattle.inbox.proofs.Inbox.push.Goals as goal
-
-pub fill-requires : goal.fill-requires
-fill-requires c =
-    let a = c.args in
-    let z = may_fit (length a.ring.now) (count a.self) (length a.buf.now) a.self.items (length a.items.now) c.requires.may_push (omega (arith, c.requires)) in
-    search rules
-
-pub write-requires-2 : goal.write-requires-2
-write-requires-2 c =
-    let a = c.args in
-    let z = may_fit (length a.ring.now) (count a.self) (length a.buf.now) a.self.items (length a.items.now) c.requires.may_push (omega (arith, c.requires)) in
-    search rules
-
-pub overflow_add-result : goal.overflow_add-result
-overflow_add-result c =
-    let a = c.args in
-    let z = may_fit (length a.ring.now) (count a.self) (length a.buf.now) a.self.items (length a.items.now) c.requires.may_push (omega (arith, c.requires)) in
-    omega arith
 
 pub returns : goal.returns
 returns c =
