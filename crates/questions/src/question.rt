@@ -1,8 +1,13 @@
+// A question, read from the words of a line, and its answer.
+ghost use Rattle.std.specs.Prelude.{IfOk, IfSome};
+ghost use Rattle.questions.specs.Limits.{IsWithinLimits};
+
 use crate::reply;
 use abi::{CmsgHdr, Count, How, Made, Message, MsgHdr, ShutdownHow};
 use address::SockAddrUn;
 use std::alloc::{AllocError, Global};
-use wording::text::{LineError, Words};
+use wording::line::Words;
+use wording::text::LineError;
 use words::{Answer, Errno, Verdict};
 
 // What lent bytes hold before a question, and a lent list of descriptors.
@@ -104,7 +109,9 @@ impl Question {
         alloc: Global,
         name: &str,
         words: &mut Words<'_>,
-    ) -> Result<Option<Question>, LineError> {
+    ) -> Result<Option<Question>, LineError>
+        ensures { IfOk result (λ found. IfSome found IsWithinLimits) }
+    {
         Ok(Some(match name {
             "align" => Question::Align {
                 len: words.number()?,

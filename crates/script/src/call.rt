@@ -1,7 +1,11 @@
 // The table calls of a script, each with its arguments.
+ghost use Rattle.std.specs.Prelude.{◌≤◌, IfOk};
+ghost use Rattle.script.specs.Limits.{IsWithinLimits};
+
 use std::alloc::{AllocError, Global};
 use std::iter::successors;
-use wording::text::{LineError, Words};
+use wording::line::Words;
+use wording::text::LineError;
 use words::Handle;
 
 // The most bytes and items that a call is lent.
@@ -17,7 +21,9 @@ pub struct Data {
 }
 
 impl Data {
-    fn read(words: &mut Words<'_>) -> Result<Data, LineError> {
+    fn read(words: &mut Words<'_>) -> Result<Data, LineError>
+        ensures { IfOk result (λ d. d.len ≤ 65600) }
+    {
         Ok(Data {
             seed: words.number()?,
             len: words.up_to(MOST_BYTES)?,
@@ -38,7 +44,9 @@ pub struct Items {
 }
 
 impl Items {
-    fn read(words: &mut Words<'_>) -> Result<Items, LineError> {
+    fn read(words: &mut Words<'_>) -> Result<Items, LineError>
+        ensures { IfOk result (λ i. i.count ≤ 320) }
+    {
         Ok(Items {
             first: words.number()?,
             count: words.up_to(MOST_ITEMS)?,
@@ -103,7 +111,9 @@ fn handle(words: &mut Words<'_>) -> Result<Handle, LineError> {
 
 impl Call {
     // The call of that name with the arguments that follow.
-    pub fn read(alloc: Global, name: &str, words: &mut Words<'_>) -> Result<Call, LineError> {
+    pub fn read(alloc: Global, name: &str, words: &mut Words<'_>) -> Result<Call, LineError>
+        ensures { IfOk result IsWithinLimits }
+    {
         Ok(match name {
             "socket" => Call::Socket {
                 domain: words.number()?,

@@ -4,7 +4,8 @@ use crate::host::Host;
 use questions::question::Question;
 use std::alloc::{AllocError, Global};
 use std::fmt;
-use wording::text::{LineError, Words};
+use wording::line::Words;
+use wording::text::LineError;
 
 // An answer is compared as far as this.
 const MOST_TEXT: usize = 65_600;
@@ -151,9 +152,9 @@ impl Player {
                 self.questions = self.questions.saturating_add(1);
                 Ok(question.answer(self.alloc)?)
             }
-            Asked::Call(mut call) => {
+            Asked::Call(call) => {
                 self.calls = self.calls.saturating_add(1);
-                call.run_on(text, more)?;
+                let call = call.run_on(text, more)?;
                 let answer = self.host.call(self.alloc, &call)?;
                 answer.ok_or(LineError::Unreadable)
             }

@@ -1,9 +1,11 @@
 // A call that its `=` follows with no space between: its last word, without its last byte, has to be
 // an argument, but is taken as it stands, up to the next space.
 // Stays: the programs do what they did on every input.
-use crate::call::{Call, MOST_BYTES, MOST_ITEMS};
+ghost use Rattle.std.specs.Prelude.{◌<◌, ◌≤◌, IfOk, IfSome};
+ghost use Rattle.script.specs.Limits.{IsWithinLimits};
+
+use crate::call::{Call, Data, Items, MOST_BYTES, MOST_ITEMS};
 use std::alloc::AllocError;
-use wording::text::hex_digit;
 use words::Handle;
 
 // The number that stands last; 0 where none does, and anew after one that is too large.
@@ -31,52 +33,107 @@ fn with_slot(handle: Handle, number: u64) -> Handle {
     Handle(handle.0 - handle.0 % 65_536 + u64::from(slot))
 }
 
-// A pair that is no two digits is 0.
-fn push_pairs(name: &mut Vec<u8>, digits: &[u8]) -> Result<(), AllocError> {
+fn digit(byte: u8) -> Option<u8>
+    ensures { IfSome result (λ d. d < 16) }
+{
+    match byte {
+        b'0'..=b'9' => Some(byte - b'0'),
+        b'a'..=b'f' => Some(byte - b'a' + 10),
+        _ => None,
+    }
+}
+
+// The name with what follows it, a byte for each pair; one that is no two digits is 0.
+fn with_pairs(mut name: Vec<u8>, digits: &[u8]) -> Result<Vec<u8>, AllocError> {
     for pair in digits.chunks_exact(2) {
-        let byte = match (hex_digit(pair[0]), hex_digit(pair[1])) {
-            (Ok(high), Ok(low)) => high * 16 + low,
+        let byte = match (digit(pair[0]), digit(pair[1])) {
+            (Some(high), Some(low)) => high * 16 + low,
             _ => 0,
         };
         name.push(byte)?;
     }
     name.truncate(MOST_BYTES);
-    Ok(())
+    Ok(name)
+}
+
+// The same after the last word, where `-` is one half of a pair.
+fn with_name(mut name: Vec<u8>, word: &str, more: &[u8]) -> Result<Vec<u8>, AllocError> {
+    if word != "-" {
+        return with_pairs(name, more);
+    }
+    name.push(0)?;
+    with_pairs(name, more.get(1..).unwrap_or(&[]))
 }
 
 impl Call {
     // `more` is what runs on from the call's text, up to the next space.
-    pub fn run_on(&mut self, text: &str, more: &[u8]) -> Result<(), AllocError> {
+    pub fn run_on(self, text: &str, more: &[u8]) -> Result<Call, AllocError>
+        ensures { IsWithinLimits self → IfOk result IsWithinLimits }
+    {
         if more.is_empty() || text.ends_with(' ') {
-            return Ok(());
+            return Ok(self);
         }
         let word = text.rsplit(' ').next().unwrap_or(text);
         let number = last_number(more);
-        match self {
-            Call::Socket { protocol: last, .. } | Call::Shutdown { how: last, .. } => {
-                *last = signed(word, number);
-            }
-            Call::Bind { name, .. } | Call::Connect { name, .. } => {
-                if word == "-" {
-                    name.push(0)?;
-                    push_pairs(name, more.get(1..).unwrap_or(&[]))?;
-                } else {
-                    push_pairs(name, more)?;
-                }
-            }
-            Call::Listen { backlog, .. } => *backlog = u32::try_from(number).unwrap_or(0),
-            Call::Accept(handle) | Call::Close(handle) | Call::Readiness(handle) => {
-                *handle = with_slot(*handle, number);
-            }
-            Call::Read { len, .. } => *len = at_most(number, MOST_BYTES),
-            Call::Write { data, .. } => data.len = at_most(number, MOST_BYTES),
-            Call::Recvmsg { count, .. } => *count = at_most(number, MOST_ITEMS),
-            Call::Sendmsg { items, .. } => items.count = at_most(number, MOST_ITEMS),
-        }
-        Ok(())
+        Ok(match self {
+            Call::Socket { domain, ty, .. } => Call::Socket {
+                domain,
+                ty,
+                protocol: signed(word, number),
+            },
+            Call::Bind { handle, name } => Call::Bind {
+                handle,
+                name: with_name(name, word, more)?,
+            },
+            Call::Listen { handle, .. } => Call::Listen {
+                handle,
+                backlog: u32::try_from(number).unwrap_or(0),
+            },
+            Call::Accept(handle) => Call::Accept(with_slot(handle, number)),
+            Call::Connect { handle, name } => Call::Connect {
+                handle,
+                name: with_name(name, word, more)?,
+            },
+            Call::Read { handle, .. } => Call::Read {
+                handle,
+                len: at_most(number, MOST_BYTES),
+            },
+            Call::Recvmsg { handle, len, .. } => Call::Recvmsg {
+                handle,
+                len,
+                count: at_most(number, MOST_ITEMS),
+            },
+            Call::Write { handle, data } => Call::Write {
+                handle,
+                data: Data {
+                    seed: data.seed,
+                    len: at_most(number, MOST_BYTES),
+                },
+            },
+            Call::Sendmsg {
+                handle,
+                data,
+                items,
+            } => Call::Sendmsg {
+                handle,
+                data,
+                items: Items {
+                    first: items.first,
+                    count: at_most(number, MOST_ITEMS),
+                },
+            },
+            Call::Shutdown { handle, .. } => Call::Shutdown {
+                handle,
+                how: signed(word, number),
+            },
+            Call::Close(handle) => Call::Close(with_slot(handle, number)),
+            Call::Readiness(handle) => Call::Readiness(with_slot(handle, number)),
+        })
     }
 }
 
-fn at_most(number: u64, most: usize) -> usize {
+fn at_most(number: u64, most: usize) -> usize
+    ensures { result ≤ most }
+{
     usize::try_from(number).unwrap_or(most).min(most)
 }

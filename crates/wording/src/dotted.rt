@@ -20,7 +20,11 @@ impl fmt::Display for Dotted {
 }
 
 impl FromStr for Dotted {
+    ghost use Rattle.wording.specs.Handles.{ReadsHandle};
+
     type Err = LineError;
+
+    ghost from_str_gives = { ReadsHandle };
 
     fn from_str(text: &str) -> Result<Dotted, LineError> {
         let (generation, slot) = text.split_once('.').ok_or(LineError::Unreadable)?;

@@ -2,5 +2,6 @@
 #![tactic(auto)]
 
 pub mod dotted;
+pub mod line;
 pub mod text;
 pub mod write;

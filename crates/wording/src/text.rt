@@ -1,10 +1,11 @@
-// Reading a line: its words, apart by one space, and the numbers, handles and bytes that they are.
-ghost use Rattle.std.specs.Prelude.{◌≡◌, ◌<◌, ◌≤◌, IfOk};
-ghost use Rattle.wording.specs.declared.text.LineError.TheVariants.{OutOfMemory};
+// Reading a word: the number or the bytes that it is.
+ghost use Rattle.std.specs.Prelude.{◌≡◌, ◌≢◌, ◌⊎◌, ◌≤◌, length, slice_index, Ok, Err, IfOk, IfErr, OnOk};
+ghost use Rattle.wording.specs.declared.text.LineError.TheVariants.{Unreadable, OutOfMemory};
+ghost use Rattle.wording.specs.Numbers.{Reads, AreBytesOf, IsNoBytes};
 
-use crate::dotted::Dotted;
+use hex::FromHexError;
 use std::alloc::{AllocError, AllocFailed, Global};
-use std::str::{FromStr, Split};
+use std::str::FromStr;
 
 /// Why a line was not read: it is in no form that a script has, or memory ran out.
 #[derive(Clone, Copy, Debug, PartialEq, Eq)]
@@ -33,92 +34,37 @@ impl<T: Drop> From<AllocFailed<T>> for LineError {
 pub fn number<T: FromStr + Drop>(word: &str) -> Result<T, LineError>
 where
     T::Err: Drop,
+    ensures read { IfOk result (λ n. T.from_str_gives word.now (Ok n)) }
+    ensures plus { slice_index word.now 0 ≡ 43 → result ≡ Err Unreadable }
+    ensures number { slice_index word.now 0 ≢ 43 → Reads T.from_str_gives word.now result }
 {
     if word.starts_with('+') {
         return Err(LineError::Unreadable);
     }
-    word.parse().or(Err(LineError::Unreadable))
+    match word.parse() {
+        Ok(number) => Ok(number),
+        Err(_) => Err(LineError::Unreadable),
+    }
 }
 
 // The most digits that bytes have.
 const MOST_DIGITS: usize = 131_072;
 
-/// 0 to 15.
-pub fn hex_digit(b: u8) -> Result<u8, LineError>
-    ensures { IfOk result (λ d. d < 16) }
+/// Bytes in hexadecimal, in small letters, `-` for none.
+pub fn bytes(alloc: Global, word: &str) -> Result<Vec<u8>, LineError>
+    ensures ok { IfOk result (λ v. AreBytesOf word.now v.items) }
+    ensures err { IfErr result (λ e. (e ≡ OutOfMemory) ⊎ IsNoBytes word.now) }
+    ensures at_most { OnOk result (length word.now ≤ 131072) }
 {
-    match b {
-        b'0'..=b'9' => Ok(b - b'0'),
-        b'a'..=b'f' => Ok(b - b'a' + 10),
-        _ => Err(LineError::Unreadable),
-    }
-}
-
-/// Bytes in hexadecimal, `-` for none.
-pub fn bytes(alloc: Global, word: &str) -> Result<Vec<u8>, LineError> {
-    let mut bytes = Vec::new(alloc);
     if word == "-" {
-        return Ok(bytes);
+        return Ok(Vec::new(alloc));
     }
-    let digits = word.as_bytes();
-    if digits.is_empty() || digits.len() % 2 == 1 || digits.len() > MOST_DIGITS {
+    if word.is_empty() || word.len() > MOST_DIGITS || word.bytes().any(|b| b.is_ascii_uppercase()) {
         return Err(LineError::Unreadable);
     }
-    for pair in digits.chunks_exact(2) {
-        bytes.push(hex_digit(pair[0])? * 16 + hex_digit(pair[1])?)?;
-    }
-    Ok(bytes)
-}
-
-/// The words of a line that are still to be read.
-#[derive(Drop)]
-pub struct Words<'a>(Split<'a, char>);
-
-impl<'a> Words<'a> {
-    pub fn new(line: &'a str) -> Words<'a> {
-        Words(line.split(' '))
-    }
-
-    pub fn word(&mut self) -> Result<&'a str, LineError> {
-        self.0.next().ok_or(LineError::Unreadable)
-    }
-
-    pub fn number<T: FromStr + Drop>(&mut self) -> Result<T, LineError>
-    where
-        T::Err: Drop,
-    {
-        number(self.word()?)
-    }
-
-    /// A number up to `most`.
-    pub fn up_to(&mut self, most: usize) -> Result<usize, LineError>
-        ensures { IfOk result (λ n. n ≤ most) }
-    {
-        let n: usize = self.number()?;
-        if n <= most {
-            Ok(n)
-        } else {
-            Err(LineError::Unreadable)
-        }
-    }
-
-    pub fn handle(&mut self) -> Result<Dotted, LineError> {
-        self.word()?.parse()
-    }
-
-    pub fn bytes(&mut self, alloc: Global) -> Result<Vec<u8>, LineError> {
-        bytes(alloc, self.word()?)
-    }
-
-    /// No word is left, but for one space at the end.
-    pub fn end(&mut self) -> Result<(), LineError> {
-        let Some(rest) = self.0.next() else {
-            return Ok(());
-        };
-        if rest.is_empty() && self.0.next().is_none() {
-            Ok(())
-        } else {
-            Err(LineError::Unreadable)
-        }
+    match hex::decode(alloc, word) {
+        Ok(bytes) => Ok(bytes),
+        Err(FromHexError::OutOfMemory) => Err(LineError::OutOfMemory),
+        Err(_) => Err(LineError::Unreadable),
     }
 }
