@@ -3,6 +3,8 @@
 // stands in the script. The first difference ends the run, and so does a line that cannot be read.
 #![tactic(auto)]
 
+ghost use Rattle.std.specs.Prelude.{◌≡◌, ◌<◌, ◌≤◌, length, vec_len, IfOk, IfSome, IfNone};
+
 mod call;
 mod host;
 mod player;
@@ -19,12 +21,25 @@ const TOO_MANY_BYTES: u64 = 1_048_576;
 /// Runs the script that stands on standard input. Its comments are printed where `aloud`, and at the
 /// end the totals.
 pub fn run(rt: &(impl Input + Print + AllocGlobal), aloud: bool) -> io::Result<()> {
-    let mut script = Vec::new(rt.alloc());
-    let count = rt.reader().take(TOO_MANY_BYTES).read_to_end(&mut script)?;
-    if count as u64 == TOO_MANY_BYTES {
-        return println!(rt; "the script has more than 1,048,575 bytes");
+    match read(rt.alloc(), rt.reader())? {
+        Some(script) => play(rt, rt.alloc(), &script, aloud),
+        None => println!(rt; "the script has more than 1,048,575 bytes"),
     }
-    play(rt, rt.alloc(), &script, aloud)
+}
+
+// All that there is to read; none where that is too much.
+fn read<R: Read + Drop>(alloc: Global, reader: R) -> io::Result<Option<Vec<u8>>>
+    ensures fits { IfOk result (λ found. IfSome found (λ script. vec_len script < 1048576)) }
+    ensures whole { IfOk result (λ found. IfSome found (λ script. IfSome (R.remaining reader) (λ bytes. script.items ≡ bytes))) }
+    ensures too_many { IfOk result (λ found. IfNone found (IfSome (R.remaining reader) (λ bytes. 1048576 ≤ length bytes))) }
+{
+    let mut script = Vec::new(alloc);
+    let count = reader.take(TOO_MANY_BYTES).read_to_end(&mut script)?;
+    if (count as u64) < TOO_MANY_BYTES {
+        Ok(Some(script))
+    } else {
+        Ok(None)
+    }
 }
 
 fn play(rt: &impl Print, alloc: Global, script: &[u8], aloud: bool) -> io::Result<()> {
