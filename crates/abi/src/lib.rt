@@ -9,40 +9,34 @@ ghost use Rattle.abi.specs.Header.{message_of, iovec_count_of, control_len_of};
 ghost use Rattle.abi.specs.Size.{align_of, len_of, space_of, rights_space_of, rights_of, rights_count_of};
 ghost use Rattle.abi.specs.Shutdown.{how_of};
 
-use words::{Answer, Errno};
+use words::Errno;
 
 pub const AF_UNIX: u16 = 1;
 
 pub const SOCK_STREAM: i32 = 1;
 
 // Tells `shutdown` which direction to close.
-#[derive(Clone, Copy)]
+#[derive(Clone, Copy, Debug, PartialEq, Eq)]
 pub enum ShutdownHow {
-    Read,
-    Write,
-    Both,
+    Read = 0,
+    Write = 1,
+    Both = 2,
 }
 
-#[derive(Clone, Copy)]
-pub enum How {
-    Is(ShutdownHow),
-    Refused(Errno),
-}
+impl TryFrom<i32> for ShutdownHow {
+    type Error = Errno;
 
-impl ShutdownHow {
-    pub fn try_from(value: i32) -> How
+    ghost try_from_gives = { λ value result. result ≡ how_of value };
+
+    fn try_from(value: i32) -> Result<ShutdownHow, Errno>
         ensures { result ≡ how_of value }
     {
-        if value == 0 {
-            return How::Is(ShutdownHow::Read);
+        match value {
+            0 => Ok(ShutdownHow::Read),
+            1 => Ok(ShutdownHow::Write),
+            2 => Ok(ShutdownHow::Both),
+            _ => Err(Errno::EINVAL),
         }
-        if value == 1 {
-            return How::Is(ShutdownHow::Write);
-        }
-        if value == 2 {
-            return How::Is(ShutdownHow::Both);
-        }
-        How::Refused(Errno::EINVAL)
     }
 }
 
@@ -59,7 +53,7 @@ pub const MAX_IOVEC: u64 = 16;
 pub const MAX_CONTROL_BYTES: u64 = 80;
 
 // What the checks below ask of a message header's 56 bytes.
-#[derive(Clone, Copy)]
+#[derive(Clone, Copy, Debug, PartialEq, Eq)]
 pub struct MsgHdr {
     pub msg_name: u64,
     pub msg_namelen: u32,
@@ -67,72 +61,54 @@ pub struct MsgHdr {
     pub msg_controllen: u64,
 }
 
-#[derive(Clone, Copy)]
-pub enum Message {
-    Is(MsgHdr),
-    Refused(Errno),
-}
-
 impl MsgHdr {
     pub const BYTES: usize = 56;
 
-    pub fn read(hdr: &[u8]) -> Message
+    pub fn read(hdr: &[u8]) -> Result<MsgHdr, Errno>
         ensures { result ≡ message_of hdr.now }
     {
         if hdr.len() < MsgHdr::BYTES {
-            return Message::Refused(Errno::SHORT);
+            return Err(Errno::SHORT);
         }
-        Message::Is(MsgHdr {
-            msg_name: le::get_u64(hdr, 0),
-            msg_namelen: le::get_u32(hdr, 8),
-            msg_iovlen: le::get_u64(hdr, 24),
-            msg_controllen: le::get_u64(hdr, 40),
+        Ok(MsgHdr {
+            msg_name: le::get(hdr, 0),
+            msg_namelen: le::get(hdr, 8),
+            msg_iovlen: le::get(hdr, 24),
+            msg_controllen: le::get(hdr, 40),
         })
     }
 
     // Unix stream sockets carry no name, so a name gives EINVAL.
-    pub fn iovec_count(self) -> Answer
+    pub fn iovec_count(self) -> Result<u64, Errno>
         ensures { result ≡ iovec_count_of self }
     {
         if self.msg_name != 0 {
-            return Answer::Refused(Errno::EINVAL);
+            return Err(Errno::EINVAL);
         }
         if self.msg_namelen != 0 {
-            return Answer::Refused(Errno::EINVAL);
+            return Err(Errno::EINVAL);
         }
         if self.msg_iovlen > MAX_IOVEC {
-            return Answer::Refused(Errno::EMSGSIZE);
+            return Err(Errno::EMSGSIZE);
         }
-        Answer::Is(self.msg_iovlen)
+        Ok(self.msg_iovlen)
     }
 
-    pub fn control_len(self) -> Answer
+    pub fn control_len(self) -> Result<u64, Errno>
         ensures { result ≡ control_len_of self }
     {
         if self.msg_controllen > MAX_CONTROL_BYTES {
-            return Answer::Refused(Errno::EINVAL);
+            return Err(Errno::EINVAL);
         }
-        Answer::Is(self.msg_controllen)
+        Ok(self.msg_controllen)
     }
 }
 
-#[derive(Clone, Copy)]
+#[derive(Clone, Copy, Debug, PartialEq, Eq)]
 pub struct CmsgHdr {
     pub cmsg_len: u64,
     pub cmsg_level: i32,
     pub cmsg_type: i32,
-}
-
-#[derive(Clone, Copy)]
-pub enum Made {
-    Is(CmsgHdr),
-    Refused(Errno),
-}
-
-#[derive(Clone, Copy)]
-pub enum Count {
-    Of(u64),
-    None,
 }
 
 impl CmsgHdr {
@@ -143,57 +119,53 @@ impl CmsgHdr {
     pub const ALIGN: u64 = 8;
 
     // `CMSG_ALIGN(len)`: rounds `len` up to a multiple of 8.
-    pub fn align(len: u64) -> Answer
+    pub fn align(len: u64) -> Result<u64, Errno>
         ensures { result ≡ align_of len }
     {
         if len <= u64::MAX - 7 {
-            Answer::Is((len + 7) / CmsgHdr::ALIGN * CmsgHdr::ALIGN)
+            Ok((len + 7) / CmsgHdr::ALIGN * CmsgHdr::ALIGN)
         } else {
-            Answer::Refused(Errno::EINVAL)
+            Err(Errno::EINVAL)
         }
     }
 
     // `CMSG_LEN(data_len)`: header plus data, no trailing padding.
-    pub fn len(data_len: u64) -> Answer
+    pub fn len(data_len: u64) -> Result<u64, Errno>
         ensures { result ≡ len_of data_len }
     {
         if data_len <= u64::MAX - CmsgHdr::BYTES {
-            Answer::Is(CmsgHdr::BYTES + data_len)
+            Ok(CmsgHdr::BYTES + data_len)
         } else {
-            Answer::Refused(Errno::EINVAL)
+            Err(Errno::EINVAL)
         }
     }
 
     // `CMSG_SPACE(data_len)`: header plus padded data.
-    pub fn space(data_len: u64) -> Answer
+    pub fn space(data_len: u64) -> Result<u64, Errno>
         ensures { result ≡ space_of data_len }
     {
-        let Answer::Is(padded) = CmsgHdr::align(data_len) else {
-            return Answer::Refused(Errno::EINVAL);
-        };
+        let padded = CmsgHdr::align(data_len)?;
         CmsgHdr::len(padded)
     }
 
-    pub fn scm_rights_space(fd_count: u64) -> Answer
+    pub fn scm_rights_space(fd_count: u64) -> Result<u64, Errno>
         ensures { result ≡ rights_space_of fd_count }
     {
         if fd_count <= u64::MAX / CmsgHdr::FD_BYTES {
             return CmsgHdr::space(CmsgHdr::FD_BYTES * fd_count);
         }
-        Answer::Refused(Errno::EINVAL)
+        Err(Errno::EINVAL)
     }
 
-    pub fn scm_rights(fd_count: u64) -> Made
+    pub fn scm_rights(fd_count: u64) -> Result<CmsgHdr, Errno>
         ensures { result ≡ rights_of fd_count }
     {
         if fd_count > u64::MAX / CmsgHdr::FD_BYTES {
-            return Made::Refused(Errno::EINVAL);
+            return Err(Errno::EINVAL);
         }
-        let Answer::Is(n) = CmsgHdr::len(CmsgHdr::FD_BYTES * fd_count) else {
-            return Made::Refused(Errno::EINVAL);
-        };
-        Made::Is(CmsgHdr {
-            cmsg_len: n,
+        let cmsg_len = CmsgHdr::len(CmsgHdr::FD_BYTES * fd_count)?;
+        Ok(CmsgHdr {
+            cmsg_len,
             cmsg_level: SOL_SOCKET,
             cmsg_type: SCM_RIGHTS,
         })
@@ -202,25 +174,25 @@ impl CmsgHdr {
     // The descriptor count of an `SCM_RIGHTS` header read from a control buffer of `control_len`
     // bytes. `None` when the level or type is different, the length leaves the buffer, or the data
     // is not whole descriptors.
-    pub fn scm_rights_count(self, control_len: u64) -> Count
+    pub fn scm_rights_count(self, control_len: u64) -> Option<u64>
         ensures { result ≡ rights_count_of self control_len }
     {
         if self.cmsg_level != SOL_SOCKET {
-            return Count::None;
+            return None;
         }
         if self.cmsg_type != SCM_RIGHTS {
-            return Count::None;
+            return None;
         }
         if self.cmsg_len > control_len {
-            return Count::None;
+            return None;
         }
         if self.cmsg_len < CmsgHdr::BYTES {
-            return Count::None;
+            return None;
         }
         let data_len = self.cmsg_len - CmsgHdr::BYTES;
         if data_len % CmsgHdr::FD_BYTES != 0 {
-            return Count::None;
+            return None;
         }
-        Count::Of(data_len / CmsgHdr::FD_BYTES)
+        Some(data_len / CmsgHdr::FD_BYTES)
     }
 }

@@ -5,9 +5,10 @@ ghost use Rattle.std.specs.Prelude.{length};
 ghost use Rattle.rules.specs.Outcome.{Call};
 ghost use Rattle.storage.specs.Rows.{lent};
 ghost use Rattle.table.specs.Admission.{Admitted};
+ghost use Rattle.promise.specs.Answers.{told};
 ghost use Rattle.promise.specs.Promise.{lists, Runs};
 
-use promise::Answer;
+use promise::Accepted;
 use storage::{Connection, Listener, Slot, State, handles, queues};
 use words::{Errno, Handle};
 
@@ -21,20 +22,19 @@ pub fn listen_admitted(
     c: usize,
     h: Handle,
     backlog: u32,
-) -> Answer
+) -> Result<Accepted, Errno>
     requires { Admitted n c (lent words.old bytes.now tokens.now) (length wakes.old) (length releases.now) }
-    ensures { Runs (Call.Listen h.0 backlog) n c (lent words.old bytes.now tokens.now) (lent words.new bytes.now tokens.now) (lists wakes.old releases.now) (lists wakes.new releases.now) result }
+    ensures { Runs (Call.Listen h.0 backlog) n c (lent words.old bytes.now tokens.now) (lent words.new bytes.now tokens.now) (lists wakes.old releases.now) (lists wakes.new releases.now) (told result) }
 {
     if !handles::is_live(words, n, h) {
-        return promise::refused(Errno::EBADF);
+        return Err(Errno::EBADF);
     }
     let i = handles::slot_of(h);
     let slot = storage::load(words, i);
-    let state = slot.state;
-    match state {
+    match slot.state {
         // no live socket is closed
-        State::Closed => promise::refused(Errno::DAMAGED),
-        State::Unbound => promise::refused(Errno::EDESTADDRREQ),
+        State::Closed => Err(Errno::DAMAGED),
+        State::Unbound => Err(Errno::EDESTADDRREQ),
         State::Bound(name) => {
             let state = State::Listening(Listener {
                 name,
@@ -42,38 +42,22 @@ pub fn listen_admitted(
                 head: 0,
                 pending: 0,
             });
-            storage::store(
-                words,
-                i,
-                Slot {
-                    generation: slot.generation,
-                    state,
-                },
-            );
-            promise::accepted(0, 0)
+            storage::store(words, i, Slot { state, ..slot });
+            Ok(Accepted::new(0, 0))
         }
         State::Listening(listener) => {
             let state = State::Listening(Listener {
-                name: listener.name,
                 backlog: backlog as u64,
-                head: listener.head,
-                pending: listener.pending,
+                ..listener
             });
-            storage::store(
-                words,
-                i,
-                Slot {
-                    generation: slot.generation,
-                    state,
-                },
-            );
+            storage::store(words, i, Slot { state, ..slot });
             if listener.backlog < backlog as u64 {
                 wakes[0] = 0;
-                return promise::accepted(0, 1);
+                return Ok(Accepted::new(0, 1));
             }
-            promise::accepted(0, 0)
+            Ok(Accepted::new(0, 0))
         }
-        State::Connected(_) => promise::refused(Errno::EINVAL),
+        State::Connected(_) => Err(Errno::EINVAL),
     }
 }
 
@@ -86,62 +70,40 @@ pub fn accept_admitted(
     n: usize,
     c: usize,
     h: Handle,
-) -> Answer
+) -> Result<Accepted, Errno>
     requires { Admitted n c (lent words.old bytes.now tokens.now) (length wakes.old) (length releases.now) }
-    ensures { Runs (Call.Accept h.0) n c (lent words.old bytes.now tokens.now) (lent words.new bytes.now tokens.now) (lists wakes.old releases.now) (lists wakes.new releases.now) result }
+    ensures { Runs (Call.Accept h.0) n c (lent words.old bytes.now tokens.now) (lent words.new bytes.now tokens.now) (lists wakes.old releases.now) (lists wakes.new releases.now) (told result) }
 {
     if !handles::is_live(words, n, h) {
-        return promise::refused(Errno::EBADF);
+        return Err(Errno::EBADF);
     }
     let i = handles::slot_of(h);
     let slot = storage::load(words, i);
-    let state = slot.state;
-    let State::Listening(listener) = state else {
-        return promise::refused(Errno::EINVAL);
+    let State::Listening(listener) = slot.state else {
+        return Err(Errno::EINVAL);
     };
     if listener.pending == 0 {
-        return promise::refused(Errno::EAGAIN);
+        return Err(Errno::EAGAIN);
     }
     let server = queues::entry(words, n, i, listener.head);
     let j = handles::slot_of(server);
     let pending = storage::load(words, j);
-    let state = pending.state;
     // an entry of a queue is of a connected socket
-    let State::Connected(connection) = state else {
-        return promise::refused(Errno::DAMAGED);
+    let State::Connected(connection) = pending.state else {
+        return Err(Errno::DAMAGED);
     };
     let state = State::Listening(Listener {
-        name: listener.name,
-        backlog: listener.backlog,
         head: ring::place(n, listener.head + 1),
         pending: listener.pending - 1,
+        ..listener
     });
-    storage::store(
-        words,
-        i,
-        Slot {
-            generation: slot.generation,
-            state,
-        },
-    );
-    let peer = connection.peer;
-    let inbox = connection.inbox;
+    storage::store(words, i, Slot { state, ..slot });
     let state = State::Connected(Connection {
-        peer,
-        inbox,
-        inbox_closed: connection.inbox_closed,
-        outbox_closed: connection.outbox_closed,
         waits: 0,
         place: 0,
+        ..connection
     });
-    storage::store(
-        words,
-        j,
-        Slot {
-            generation: pending.generation,
-            state,
-        },
-    );
+    storage::store(words, j, Slot { state, ..pending });
     wakes[0] = 0;
-    promise::accepted(server.0, 1)
+    Ok(Accepted::new(server.0, 1))
 }

@@ -1,18 +1,18 @@
 -- The returns of `SockAddrUn`'s functions, and what the definitions of an address say of each other.
 use mathlib.Core.Path.{◌≡◌, refl, sym, ◌∙◌, ap, ap₂}
 use mathlib.Core.Bool.{Bool, true, false, cond, not}
-use mathlib.Core.List.{List, [], ◌∷◌, ◌++◌, append-nil, append_assoc}
+use mathlib.Core.List.{List, [], ◌∷◌, ◌++◌, append_assoc}
 use Prim.Native.Nat.{ℕ, ◌+◌, ◌-◌, ◌<◌, ◌≤◌}
 use native.Mathlib.Omega.{arith}
-use borrow.Author.Tests.{eq-eqb, ne_eqb, lt-ltb, le-ltb, ltb-false, not-true, not-false}
+use borrow.Author.Tests.{eq-eqb, ne_eqb, lt-ltb, le-ltb, not-true, not-false}
 use lib.Dec.{eqb, ltb}
 use borrow.Rule.Slice.PartMut.{mid_of, put_mid}
-use lib.ListN.{length, take, drop, replicate, take-append-drop, length-take, length-drop, length-append}
-use lib.Seq.{sets, sets-eq, drop-drop, take-length}
+use lib.ListN.{length, take, drop, replicate, take-append-drop, length-take, length-drop}
+use lib.Seq.{sets, sets-eq, drop-drop}
+use Rattle.std.specs.Prelude.{Result, Ok, Err, MatchResult}
+use Rattle.std.specs.Result.{result_unwrap_or}
 use Rattle.words.specs.declared.Errno.{Errno}
 use Rattle.words.specs.declared.Errno.TheVariants.{EINVAL, EAFNOSUPPORT, ENAMETOOLONG, SHORT}
-use Rattle.words.specs.declared.Verdict.{Verdict}
-use Rattle.words.specs.declared.Answer.{Answer}
 use Rattle.laws.proofs.Lists.{mid_is, put_back}
 use Rattle.le.specs.Le.{le, bytes}
 use Rattle.utf8.specs.Syntax.{is_utf8}
@@ -36,16 +36,16 @@ unfolding named
 named_good [] n e = absurd (n refl)
 named_good (b ∷ p) n e = rw e
 
--- ── path_refusal ──
+-- ── path ──
 
 module _ (a : List ℕ) where
-  pub under_two : length a < 2 → Verdict.Refused EINVAL ≡ refusal_in (address_of a)
-  unfolding address_of refusal_in
+  pub under_two : length a < 2 → address_of a ≡ Address.refused EINVAL
+  unfolding address_of
   under_two h = rw (lt-ltb (length a) 2 h)
 
   module _ (h : 2 ≤ length a) (f : ℕ) (is : f ≡ le 2 a 0) where
-    pub other_family : (f ≡ 1 → ⊥) → Verdict.Refused EAFNOSUPPORT ≡ refusal_in (address_of a)
-    unfolding address_of refusal_in
+    pub other_family : (f ≡ 1 → ⊥) → address_of a ≡ Address.refused EAFNOSUPPORT
+    unfolding address_of
     other_family e = rw (le-ltb (length a) 2 h, ne_eqb (le 2 a 0) 1 (λ q. e (is ∙ q)))
 
     module _ (unix : f ≡ 1) (e : ℕ) (end : ZeroFrom a 2 e) where
@@ -54,8 +54,7 @@ module _ (a : List ℕ) where
       unfolding address_of
       says = rw (le-ltb (length a) 2 h, eq-eqb (le 2 a 0) 1 (sym is ∙ unix))
 
-      pub no_path : e ≡ 2 → Verdict.Refused EINVAL ≡ refusal_in (address_of a)
-      unfolding refusal_in
+      pub no_path : e ≡ 2 → address_of a ≡ Address.refused EINVAL
       no_path z = rw (says, named_empty (up_to_zero (drop 2 a)) (omega arith))
 
       -- the part that is tested
@@ -63,63 +62,50 @@ module _ (a : List ℕ) where
       part = let n : e - 2 ≡ length (up_to_zero (drop 2 a)) = omega arith in rw n (front (drop 2 a))
 
       module _ (b : Bool) (test : b ≡ is_utf8 (take (e - 2) (drop 2 a))) where
-        pub bad : not b ≡ true → Verdict.Refused EINVAL ≡ refusal_in (address_of a)
-        unfolding refusal_in
+        pub bad : not b ≡ true → address_of a ≡ Address.refused EINVAL
         bad n = rw (says, named_bad (up_to_zero (drop 2 a)) (ap is_utf8 (sym part) ∙ sym test ∙ not-true b n))
 
-        pub fine : (e ≡ 2 → ⊥) → not b ≡ false → Verdict.Accepted ≡ refusal_in (address_of a)
-        unfolding refusal_in
-        fine z n = rw (says, named_good (up_to_zero (drop 2 a)) (λ q. z (omega arith)) (ap is_utf8 (sym part) ∙ sym test ∙ not-false b n))
+        pub fine : (e ≡ 2 → ⊥) → not b ≡ false → address_of a ≡ Address.path (take (e - 2) (drop 2 a))
+        fine z n = rw part (says ∙ named_good (up_to_zero (drop 2 a)) (λ q. z (omega arith)) (ap is_utf8 (sym part) ∙ sym test ∙ not-false b n))
 
--- ── path_of ──
-
--- a refused address shows an empty part
-pub none : (a : List ℕ) (v : Verdict) (x : Errno) → v ≡ refusal_in (address_of a) → v ≡ Verdict.Refused x → [] ≡ path_in (address_of a)
-unfolding refusal_in path_in
-none a v x p q = go (address_of a) (sym q ∙ p)
+-- a path is what stands before the first zero
+path_named : (s p : List ℕ) → named s ≡ Address.path p → p ≡ s
+unfolding named
+path_named [] p e = absurd (let z : ◌≡◌ {A = ℕ} 0 1 = cc in omega arith)
+path_named (b ∷ s) p e = go (is_utf8 (b ∷ s)) e
   where
-    go : (m : Address) → Verdict.Refused x ≡ refusal_in m → [] ≡ path_in m
-    go (Address.path s) r = absurd (let z : ◌≡◌ {A = ℕ} 0 1 = cc in omega arith)
-    go (Address.refused y) r = refl
-
--- an accepted one has its two bytes, and shows the part up to the first zero
-record Shown (a : List ℕ) (m : Address) : Type 0 where
-  long : 2 ≤ length a
-  path : path_in m ≡ up_to_zero (drop 2 a)
-
-shown : (s : List ℕ) → Verdict.Accepted ≡ refusal_in (named s) → path_in (named s) ≡ s
-unfolding named refusal_in path_in
-shown [] r = refl
-shown (b ∷ s) r = go (is_utf8 (b ∷ s)) r
-  where
-    go : (d : Bool) → Verdict.Accepted ≡ refusal_in (cond d (Address.path (b ∷ s)) (Address.refused EINVAL)) → path_in (cond d (Address.path (b ∷ s)) (Address.refused EINVAL)) ≡ b ∷ s
-    go true q = refl
+    go : (d : Bool) → cond d (Address.path (b ∷ s)) (Address.refused EINVAL) ≡ Address.path p → p ≡ b ∷ s
+    go true q = cc
     go false q = absurd (let z : ◌≡◌ {A = ℕ} 0 1 = cc in omega arith)
 
-accepted : (a : List ℕ) → Verdict.Accepted ≡ refusal_in (address_of a) → Shown a (address_of a)
-unfolding address_of refusal_in path_in
-accepted a p = go (ltb (length a) 2) refl (eqb (le 2 a 0) 1) p
+pub path_said : (a p : List ℕ) → address_of a ≡ Address.path p → p ≡ up_to_zero (drop 2 a)
+unfolding address_of
+path_said a p e = go (ltb (length a) 2) (eqb (le 2 a 0) 1) e
   where
-    go : (b : Bool) → ltb (length a) 2 ≡ b → (d : Bool)
-        → Verdict.Accepted ≡ refusal_in (cond b (Address.refused EINVAL) (cond d (named (up_to_zero (drop 2 a))) (Address.refused EAFNOSUPPORT)))
-        → Shown a (cond b (Address.refused EINVAL) (cond d (named (up_to_zero (drop 2 a))) (Address.refused EAFNOSUPPORT)))
-    go true e d r = absurd (let z : ◌≡◌ {A = ℕ} 0 1 = cc in omega arith)
-    go false e true r = record { long = ltb-false (length a) 2 e; path = shown (up_to_zero (drop 2 a)) r }
-    go false e false r = absurd (let z : ◌≡◌ {A = ℕ} 0 1 = cc in omega arith)
+    go : (b d : Bool) → cond b (Address.refused EINVAL) (cond d (named (up_to_zero (drop 2 a))) (Address.refused EAFNOSUPPORT)) ≡ Address.path p → p ≡ up_to_zero (drop 2 a)
+    go true d q = absurd (let z : ◌≡◌ {A = ℕ} 0 1 = cc in omega arith)
+    go false true q = path_named (up_to_zero (drop 2 a)) p q
+    go false false q = absurd (let z : ◌≡◌ {A = ℕ} 0 1 = cc in omega arith)
 
-module _ (a : List ℕ) (v : Verdict) (p : v ≡ refusal_in (address_of a)) (q : v ≡ Verdict.Accepted) where
-  pub has_family : 2 ≤ length a
-  has_family = (accepted a (sym q ∙ p)).long
+-- a path shows itself, and a refused address an empty part; r is what `path` answers, and `now` the bytes of a part
+pub shown : (a : List ℕ) {B : Type 0} (now : B → List ℕ) (r : Result B Errno) (d : B)
+    → MatchResult r (λ p. address_of a ≡ Address.path (now p)) (λ e. address_of a ≡ Address.refused e) → now d ≡ [] → now (result_unwrap_or r d) ≡ path_in (address_of a)
+unfolding path_in
+shown a now (Ok p) d h z = rw h refl
+shown a now (Err e) d h z = rw h z
 
-  pub part_of : (e : ℕ) → ZeroFrom a 2 e → take (e - 2) (drop 2 a) ≡ path_in (address_of a)
-  part_of e end =
-      let n : e - 2 ≡ length (up_to_zero (drop 2 a)) = omega arith in
-      rw n (front (drop 2 a) ∙ sym (accepted a (sym q ∙ p)).path)
+pub refused_is : (a : List ℕ) (e : Errno) → address_of a ≡ Address.refused e → Err e ≡ refusal_in (address_of a)
+unfolding refusal_in
+refused_is a e h = rw h refl
+
+pub path_has_none : (a p : List ℕ) → address_of a ≡ Address.path p → Ok tt ≡ refusal_in (address_of a)
+unfolding refusal_in
+path_has_none a p h = rw h refl
 
 -- "is empty exactly where refused"
 pub record Refused (m : Address) : Type 0 where
   pub why : Errno
-  pub is : refusal_in m ≡ Verdict.Refused why
+  pub is : refusal_in m ≡ Err why
 
 named_refused : (s : List ℕ) → path_in (named s) ≡ [] → Refused (named s)
 unfolding named refusal_in path_in
@@ -142,61 +128,58 @@ empty_refused a e = go (ltb (length a) 2) (eqb (le 2 a 0) 1) e
 
 -- ── len ──
 
-pub short : (a : List ℕ) → length a < 110 → Answer.Refused SHORT ≡ length_of a
+pub short : (a : List ℕ) → length a < 110 → Err SHORT ≡ length_of a
 unfolding length_of
 short a h = rw (lt-ltb (length a) 110 h)
 
-pub long : (a : List ℕ) (n : ℕ) → 110 ≤ length a → ZeroFrom (take 108 (drop 2 a)) 0 n → Answer.Is (2 + n + 1) ≡ length_of a
+pub long : (a : List ℕ) (n : ℕ) → 110 ≤ length a → ZeroFrom (take 108 (drop 2 a)) 0 n → Ok (2 + n + 1) ≡ length_of a
 unfolding length_of
 long a n h e = let p : n ≡ length (up_to_zero (take 108 (drop 2 a))) = omega arith in rw (le-ltb (length a) 110 h, p)
 
 -- ── new ──
 
 module _ (p a : List ℕ) where
-  refuses : (e : Errno) → new_of p a ≡ Verdict.Refused e → Wrote p a a (Verdict.Refused e)
+  refuses : (e : Errno) → new_of p a ≡ Err e → Wrote p a a (Err e)
   unfolding after_new
   refuses e q = record { answer = sym q; bytes = rw q }
 
-  pub no_room : length a < 110 → Wrote p a a (Verdict.Refused SHORT)
+  pub no_room : length a < 110 → Wrote p a a (Err SHORT)
   unfolding new_of
   no_room h = refuses SHORT (rw (lt-ltb (length a) 110 h))
 
   module _ (room : 110 ≤ length a) where
-    pub long_path : 108 ≤ length p → Wrote p a a (Verdict.Refused ENAMETOOLONG)
+    pub long_path : 108 ≤ length p → Wrote p a a (Err ENAMETOOLONG)
     unfolding new_of
     long_path h = refuses ENAMETOOLONG (rw (le-ltb (length a) 110 room, lt-ltb 107 (length p) (omega arith)))
 
     module _ (fits : length p < 108) (b : Bool) (test : b ≡ is_utf8 p) where
-      pub bad_path : not b ≡ true → Wrote p a a (Verdict.Refused EINVAL)
+      pub bad_path : not b ≡ true → Wrote p a a (Err EINVAL)
       unfolding new_of
       bad_path n = refuses EINVAL (rw (le-ltb (length a) 110 room, le-ltb 107 (length p) (omega arith), ← test, not-true b n))
 
       -- the family, then the path, then zeros
       module _ (good : not b ≡ false) (n : ℕ) (all : n ≡ length p) (l₁ c₁ c₂ : List ℕ)
           (family : l₁ ≡ sets a 0 (bytes 2 1))
-          (copied : c₁ ≡ take (length p) p ++ drop (length p) (mid_of 2 (length l₁ - 2) l₁))
-          (cleared : c₂ ≡ replicate (length (mid_of (2 + n) (110 - (2 + n)) (put_mid 2 (length l₁ - 2) l₁ c₁))) 0) where
+          (copied : c₁ ≡ p)
+          (cleared : c₂ ≡ replicate (length (mid_of (2 + n) (110 - (2 + n)) (put_mid 2 ((2 + n) - 2) l₁ c₁))) 0) where
         abbrev d : List ℕ
         d = drop 2 a
 
         abbrev r : List ℕ
         r = drop (length p) d
 
-        front_is : l₁ ≡ (1 ∷ 0 ∷ []) ++ (d ++ [])
+        front_is : l₁ ≡ (1 ∷ 0 ∷ []) ++ (take (length p) d ++ r)
         unfolding bytes
-        front_is = family ∙ sets-eq (bytes 2 1) a 0 (omega arith) ∙ ap (λ (l : List ℕ). 1 ∷ 0 ∷ l) (sym (append-nil d))
+        front_is = family ∙ sets-eq (bytes 2 1) a 0 (omega arith) ∙ ap (λ (l : List ℕ). 1 ∷ 0 ∷ l) (sym (take-append-drop (length p) d))
 
-        rest_long : length d ≡ length l₁ - 2
-        rest_long = let e = ap length front_is in let f = length-append d [] in omega arith
+        room_long : length (take (length p) d) ≡ (2 + n) - 2
+        room_long = let e = length-take (length p) d in let f = length-drop 2 a in omega arith
 
-        path_is : put_mid 2 (length l₁ - 2) l₁ c₁ ≡ (1 ∷ 0 ∷ p) ++ (take (108 - n) r ++ drop (108 - n) r)
+        path_is : put_mid 2 ((2 + n) - 2) l₁ c₁ ≡ (1 ∷ 0 ∷ p) ++ (take (108 - n) r ++ drop (108 - n) r)
         path_is =
-            ap (λ (l : List ℕ). put_mid 2 (length l₁ - 2) l c₁) front_is
-            ∙ put_back (1 ∷ 0 ∷ []) d [] 2 (length l₁ - 2) refl rest_long c₁
-            ∙ ap (λ (l : List ℕ). 1 ∷ 0 ∷ l)
-            (append-nil c₁ ∙ copied
-            ∙ ap₂ (λ (x y : List ℕ). x ++ drop (length p) y) (take-length p) (ap (mid_of 2 (length l₁ - 2)) front_is ∙ mid_is (1 ∷ 0 ∷ []) d [] 2 (length l₁ - 2) refl rest_long)
-            ∙ ap (λ (l : List ℕ). p ++ l) (sym (take-append-drop (108 - n) r)))
+            ap (λ (l : List ℕ). put_mid 2 ((2 + n) - 2) l c₁) front_is
+            ∙ put_back (1 ∷ 0 ∷ []) (take (length p) d) r 2 ((2 + n) - 2) refl room_long c₁
+            ∙ ap₂ (λ (x y : List ℕ). 1 ∷ 0 ∷ x ++ y) copied (sym (take-append-drop (108 - n) r))
 
         part_long : length (take (108 - n) r) ≡ 110 - (2 + n)
         part_long = let e = length-take (108 - n) r in let f = length-drop (length p) d in let g = length-drop 2 a in omega arith
@@ -215,11 +198,11 @@ module _ (p a : List ℕ) where
             let e : 2 + (length p + (108 - n)) ≡ 110 = omega arith in
             drop-drop (108 - n) (length p) d ∙ drop-drop (length p + (108 - n)) 2 a ∙ ap (λ (m : ℕ). drop m a) e
 
-        accepts : new_of p a ≡ Verdict.Accepted
+        accepts : new_of p a ≡ (Ok tt)
         unfolding new_of
         accepts = rw (le-ltb (length a) 110 room, le-ltb 107 (length p) (omega arith), ← test, not-false b good)
 
-        pub wrote : Wrote p a (put_mid (2 + n) (110 - (2 + n)) (put_mid 2 (length l₁ - 2) l₁ c₁) c₂) Verdict.Accepted
+        pub wrote : Wrote p a (put_mid (2 + n) (110 - (2 + n)) (put_mid 2 ((2 + n) - 2) l₁ c₁) c₂) (Ok tt)
         unfolding after_new written
         wrote =
             record {

@@ -1,5 +1,4 @@
 pub mod Zeros
-pub mod Cleared
 pub mod Addresses
 pub mod RoundTrip
 pub mod Lines

@@ -3,9 +3,10 @@
 use mathlib.Core.Path.{◌≡◌}
 use mathlib.Core.List.{List}
 use Prim.Native.Nat.{ℕ}
+use Rattle.std.specs.Prelude.{Result}
+use Rattle.words.specs.declared.Errno.{Errno}
 use Rattle.laws.proofs.Unique.{unique}
-use Rattle.words.specs.declared.Verdict.{Verdict}
 use Rattle.address.specs.Address.{Wrote}
 
-pub wrote_unique : (p a b c : List ℕ) (r s : Verdict) → Wrote p a b r → Wrote p a c s → (r ≡ s) × (b ≡ c)
+pub wrote_unique : (p a b c : List ℕ) (r s : Result Unit Errno) → Wrote p a b r → Wrote p a c s → (r ≡ s) × (b ≡ c)
 wrote_unique p a b c r s x y = (unique x.answer y.answer, unique x.bytes y.bytes)

@@ -8,7 +8,7 @@ use native.Mathlib.Omega.{arith}
 use borrow.Author.Tests.{le-ltb, ne_eqb}
 use lib.ListN.{length, get_or, take, drop, replicate, length-append, length-replicate}
 use lib.Seq.{take-append-add, take_all}
-use Rattle.words.specs.declared.Answer.{Answer}
+use Rattle.std.specs.Prelude.{Ok}
 use Rattle.le.specs.Le.{le}
 use Rattle.utf8.specs.Syntax.{is_utf8}
 use Rattle.address.specs.Address.{up_to_zero, Address, named, address_of, written, length_of}
@@ -60,7 +60,7 @@ module _ (p a : List ℕ) (free : ZeroFree p) (some : 1 ≤ length p) (fits : le
       rw (← all) (part_back (length (written p a)) long)
 
   -- and its length is the family, the path and its zero
-  pub length_back : 110 ≤ length a → length_of (written p a) ≡ Answer.Is (2 + length p + 1)
+  pub length_back : 110 ≤ length a → length_of (written p a) ≡ Ok (2 + length p + 1)
   unfolding length_of
   length_back room =
       let long : 110 ≤ length (written p a) = omega (arith, ap length whole, length-append (1 ∷ 0 ∷ p) zeros, length-append (replicate (108 - length p) 0) (drop 110 a), length-replicate {A = ℕ} (108 - length p) 0) in

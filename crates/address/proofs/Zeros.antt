@@ -38,5 +38,5 @@ module _ (s : List ℕ) (at i : ℕ) (so : at + length (up_to_zero (drop at s)) 
   pub on : i < length s → (get_or s i 0 ≡ 0 → ⊥) → at + length (up_to_zero (drop at s)) ≡ i + 1 + length (up_to_zero (drop (i + 1) s))
   on h e = let z = ap length (at_other s i h e) in omega arith
 
-  pub none : i ≤ length s → length s ≤ i → ZeroFrom s at i
-  none k h = let z = ap length (at_end s i h) in record { place = omega arith; within = k }
+  pub none : i ≤ length s → length s ≤ i → ZeroFrom s at (length s)
+  none k h = let z = ap length (at_end s i h) in record { place = omega arith; within = omega arith }

@@ -1,9 +1,7 @@
 -- Document 01, "Addresses and control bytes", first paragraph: bytes 0 and 1 of an address hold its family, and its path stands behind them.
-use Rattle.std.specs.Prelude.{◌≡◌, cond, List, [], ◌∷◌, ◌++◌, ℕ, ◌+◌, ◌-◌, ◌≤◌, ltb, eqb, length, take, drop, replicate}
+use Rattle.std.specs.Prelude.{◌≡◌, cond, List, [], ◌∷◌, ◌++◌, ℕ, ◌+◌, ◌-◌, ◌≤◌, ltb, eqb, length, take, drop, replicate, Result, Ok, Err}
 use Rattle.words.specs.declared.Errno.{Errno}
 use Rattle.words.specs.declared.Errno.TheVariants.{EINVAL, EAFNOSUPPORT, ENAMETOOLONG, SHORT}
-use Rattle.words.specs.declared.Verdict.{Verdict}
-use Rattle.words.specs.declared.Answer.{Answer}
 use Rattle.le.specs.Le.{le}
 use Rattle.utf8.specs.Syntax.{is_utf8}
 
@@ -41,30 +39,30 @@ unfoldable pub path_in : Address → List ℕ
 path_in (path p) = p
 path_in (refused e) = []
 
-unfoldable pub refusal_in : Address → Verdict
-refusal_in (path p) = Verdict.Accepted
-refusal_in (refused e) = Verdict.Refused e
+unfoldable pub refusal_in : Address → Result Unit Errno
+refusal_in (path p) = (Ok tt)
+refusal_in (refused e) = Err e
 
 -- ── Writing ──
 
 -- "needs 110 bytes (18), takes at most 107 path bytes (17), refuses bad UTF-8 (2, added), in that order"
-unfoldable pub new_of : List ℕ → List ℕ → Verdict
+unfoldable pub new_of : List ℕ → List ℕ → Result Unit Errno
 new_of p a =
-    cond (ltb (length a) 110) (Verdict.Refused SHORT)
-    (cond (ltb 107 (length p)) (Verdict.Refused ENAMETOOLONG)
-    (cond (is_utf8 p) Verdict.Accepted
-    (Verdict.Refused EINVAL)))
+    cond (ltb (length a) 110) (Err SHORT)
+    (cond (ltb 107 (length p)) (Err ENAMETOOLONG)
+    (cond (is_utf8 p) (Ok tt)
+    (Err EINVAL)))
 
 -- "it fills the first 110 bytes, zeros after the path, keeps any bytes beyond"
 unfoldable pub written : List ℕ → List ℕ → List ℕ
 written p a = 1 ∷ 0 ∷ p ++ replicate (108 - length p) 0 ++ drop 110 a
 
-unfoldable pub after_new : Verdict → List ℕ → List ℕ → List ℕ
-after_new Verdict.Accepted p a = written p a
-after_new (Verdict.Refused e) p a = a
+unfoldable pub after_new : Result Unit Errno → List ℕ → List ℕ → List ℕ
+after_new (Ok tt) p a = written p a
+after_new (Err e) p a = a
 
 -- the writer's answer, and every byte of the lent address after it
-pub record Wrote (p a a' : List ℕ) (r : Verdict) : Type 0 where
+pub record Wrote (p a a' : List ℕ) (r : Result Unit Errno) : Type 0 where
   pub answer : r ≡ new_of p a
   pub bytes : a' ≡ after_new (new_of p a) p a
 
@@ -72,7 +70,7 @@ pub record Wrote (p a a' : List ℕ) (r : Verdict) : Type 0 where
 
 -- "The length of an address of 110 bytes (fewer 18) is 2 + place of the first zero in its path field + 1; a full path field without a zero gives
 -- 111": the place of the first zero is the number of bytes before it
-unfoldable pub length_of : List ℕ → Answer
+unfoldable pub length_of : List ℕ → Result ℕ Errno
 length_of a =
-    cond (ltb (length a) 110) (Answer.Refused SHORT)
-    (Answer.Is (2 + length (up_to_zero (take 108 (drop 2 a))) + 1))
+    cond (ltb (length a) 110) (Err SHORT)
+    (Ok (2 + length (up_to_zero (take 108 (drop 2 a))) + 1))

@@ -2,10 +2,10 @@
 // is here read from and written to lent bytes.
 #![tactic(auto)]
 
-ghost use Rattle.std.specs.Prelude.{◌≡◌, ◌≤◌, ◌++◌, length, take, drop, replicate};
-ghost use Rattle.address.specs.Address.{address_of, path_in, refusal_in, length_of, Wrote, ZeroFrom};
+ghost use Rattle.std.specs.Prelude.{◌≡◌, ◌≤◌, length, MatchResult};
+ghost use Rattle.address.specs.Address.{Address, address_of, path_in, refusal_in, length_of, Wrote, ZeroFrom};
 
-use words::{Answer, Errno, Verdict};
+use words::Errno;
 
 pub const SUN_PATH_MAX: usize = 108;
 
@@ -18,66 +18,72 @@ impl SockAddrUn {
     pub const BYTES: usize = 110;
 
     // Writes the address of `path` into the first 110 bytes of `addr`.
-    pub fn new(path: &[u8], addr: &mut [u8]) -> Verdict
+    pub fn new(path: &[u8], addr: &mut [u8]) -> Result<(), Errno>
         ensures { Wrote path.now addr.old addr.new result }
     {
         if addr.len() < SockAddrUn::BYTES {
-            return Verdict::Refused(Errno::SHORT);
+            return Err(Errno::SHORT);
         }
         if SUN_PATH_MAX <= path.len() {
-            return Verdict::Refused(Errno::ENAMETOOLONG);
+            return Err(Errno::ENAMETOOLONG);
         }
         if !utf8::is_utf8(path) {
-            return Verdict::Refused(Errno::EINVAL);
+            return Err(Errno::EINVAL);
         }
-        le::put_u16(addr, 0, abi::AF_UNIX);
-        let end = 2 + copy(path, &mut addr[2..]);
-        clear(&mut addr[end..SockAddrUn::BYTES]);
-        Verdict::Accepted
+        le::put(addr, 0, abi::AF_UNIX);
+        let end = 2 + path.len();
+        addr[2..end].copy_from_slice(path);
+        addr[end..SockAddrUn::BYTES].fill(0);
+        Ok(())
     }
 
     // The byte count the kernel reads: the family, the path, and its zero.
-    pub fn len(addr: &[u8]) -> Answer
+    pub fn len(addr: &[u8]) -> Result<u64, Errno>
         ensures { result ≡ length_of addr.now }
     {
         if addr.len() < SockAddrUn::BYTES {
-            return Answer::Refused(Errno::SHORT);
+            return Err(Errno::SHORT);
         }
         let field = &addr[2..SockAddrUn::BYTES];
         let n = zero_from(field, 0);
-        Answer::Is((2 + n + 1) as u64)
+        Ok((2 + n + 1) as u64)
     }
 
-    // The path inside `addr`, cut at the first zero: a part of the lent address itself, empty where
-    // the address is refused.
-    pub fn path_of(addr: &[u8]) -> &[u8]
-        ensures { result.now ≡ path_in (address_of addr.now) }
-    {
-        let Verdict::Accepted = SockAddrUn::path_refusal(addr) else {
-            return &addr[0..0];
-        };
-        let end = zero_from(addr, 2);
-        &addr[2..end]
-    }
-
-    // Why an address has no path.
-    pub fn path_refusal(addr: &[u8]) -> Verdict
-        ensures { result ≡ refusal_in (address_of addr.now) }
+    // The path inside `addr`, cut at the first zero: a part of the lent address itself; or why it
+    // has none.
+    pub fn path(addr: &[u8]) -> Result<&[u8], Errno>
+        ensures { MatchResult result (λ p. address_of addr.now ≡ Address.path p.now) (λ e. address_of addr.now ≡ Address.refused e) }
     {
         if addr.len() < 2 {
-            return Verdict::Refused(Errno::EINVAL);
+            return Err(Errno::EINVAL);
         }
-        if le::get_u16(addr, 0) != abi::AF_UNIX {
-            return Verdict::Refused(Errno::EAFNOSUPPORT);
+        if le::get::<u16, 2>(addr, 0) != abi::AF_UNIX {
+            return Err(Errno::EAFNOSUPPORT);
         }
         let end = zero_from(addr, 2);
         if end == 2 {
-            return Verdict::Refused(Errno::EINVAL);
+            return Err(Errno::EINVAL);
         }
-        if !utf8::is_utf8(&addr[2..end]) {
-            return Verdict::Refused(Errno::EINVAL);
+        let path = &addr[2..end];
+        if !utf8::is_utf8(path) {
+            return Err(Errno::EINVAL);
         }
-        Verdict::Accepted
+        Ok(path)
+    }
+
+    // The same part, empty where the address is refused.
+    pub fn path_of(addr: &[u8]) -> &[u8]
+        ensures { result.now ≡ path_in (address_of addr.now) }
+    {
+        SockAddrUn::path(addr).unwrap_or(&addr[0..0])
+    }
+
+    // Why an address has no path.
+    pub fn path_refusal(addr: &[u8]) -> Result<(), Errno>
+        ensures { result ≡ refusal_in (address_of addr.now) }
+    {
+        SockAddrUn::path(addr)?;
+        Ok(())
     }
 }
 
@@ -86,34 +92,10 @@ fn zero_from(s: &[u8], at: usize) -> usize
     requires { at ≤ length s.now }
     ensures { ZeroFrom s.now at result }
 {
-    let mut i = at;
-    while i < s.len() {
+    for i in at..s.len() {
         if s[i] == 0 {
             return i;
         }
-        i += 1;
     }
-    i
-}
-
-// Zeros in all of `s`.
-fn clear(s: &mut [u8])
-    ensures { s.new ≡ replicate (length s.old) 0 }
-{
-    let mut i = 0;
-    while i < s.len() {
-        s[i] = 0;
-        i += 1;
-    }
-}
-
-// Copies `src` to the front of `dst`, and says how many bytes that is.
-fn copy(src: &[u8], dst: &mut [u8]) -> usize
-    requires { length src.now ≤ length dst.old }
-    ensures count { result ≡ length src.now }
-    ensures copied { dst.new ≡ take (length src.now) src.now ++ drop (length src.now) dst.old }
-{
-    let n = src.len();
-    dst[..n].copy_from_slice(src);
-    n
+    s.len()
 }

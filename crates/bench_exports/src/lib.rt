@@ -9,7 +9,7 @@ ghost use Rattle.bench_exports.specs.Checking.{check_no};
 ghost use Rattle.bench_exports.specs.Numbers.{numbers_in, listed};
 
 use inbox::{AttachedItems, Inbox};
-use words::{Errno, Verdict};
+use words::Errno;
 
 #[repr(C)]
 #[derive(Clone, Copy)]
@@ -21,6 +21,15 @@ pub struct BenchAnswer {
     pub released: u64,
 }
 
+// Nothing was moved or handed over.
+const NOTHING: BenchAnswer = BenchAnswer {
+    refusal: 0,
+    flags: 0,
+    moved: 0,
+    items: 0,
+    released: 0,
+};
+
 #[unsafe(no_mangle)]
 pub extern "C" fn bench_push(
     numbers: &mut [u64],
@@ -30,32 +39,21 @@ pub extern "C" fn bench_push(
     buf: &[u8],
     items: &[u32],
 ) -> BenchAnswer {
-    if numbers.len() < 5 || 65536 < ring.len() {
-        return refused(Errno::SHORT);
-    }
-    if places.len() != 256 {
-        return refused(Errno::SHORT);
-    }
-    if tokens.len() != 256 {
+    if numbers.len() < 5 || 65536 < ring.len() || places.len() != 256 || tokens.len() != 256 {
         return refused(Errno::SHORT);
     }
     let inbox = load(numbers);
     if !inbox.is_well(places, ring.len()) {
         return refused(Errno::DAMAGED);
     }
-    match inbox.push_refusal(ring.len(), buf.len(), items.len()) {
-        Verdict::Refused(no) => refused(no),
-        Verdict::Accepted => {
-            let pushed = inbox.push(ring, places, tokens, buf, items);
-            store(numbers, pushed.inbox);
-            BenchAnswer {
-                refusal: 0,
-                flags: 0,
-                moved: pushed.moved as u64,
-                items: 0,
-                released: 0,
-            }
-        }
+    if let Err(no) = inbox.push_refusal(ring.len(), buf.len(), items.len()) {
+        return refused(no);
+    }
+    let pushed = inbox.push(ring, places, tokens, buf, items);
+    store(numbers, pushed.inbox);
+    BenchAnswer {
+        moved: pushed.moved as u64,
+        ..NOTHING
     }
 }
 
@@ -70,13 +68,7 @@ pub extern "C" fn bench_take(
     items: &mut [u32],
     releases: &mut [u32],
 ) -> BenchAnswer {
-    if numbers.len() < 5 || 65536 < ring.len() {
-        return refused(Errno::SHORT);
-    }
-    if places.len() != 256 {
-        return refused(Errno::SHORT);
-    }
-    if tokens.len() != 256 {
+    if numbers.len() < 5 || 65536 < ring.len() || places.len() != 256 || tokens.len() != 256 {
         return refused(Errno::SHORT);
     }
     if releases.len() < 256 {
@@ -137,10 +129,7 @@ fn policy(hand_over: bool) -> AttachedItems {
 fn refused(no: Errno) -> BenchAnswer {
     BenchAnswer {
         refusal: no.number(),
-        flags: 0,
-        moved: 0,
-        items: 0,
-        released: 0,
+        ..NOTHING
     }
 }
 

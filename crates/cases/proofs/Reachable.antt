@@ -11,8 +11,8 @@ use native.Mathlib.Omega.{arith}
 use lib.Dec.{leb, eqb}
 use lib.ListN.{length, get_or, replicate, length-replicate}
 use borrow.Author.Tests.{eqb-true, ne_eqb, le-leb}
+use Rattle.std.specs.Prelude.{Ok}
 use Rattle.laws.proofs.Tests.{and_three}
-use Rattle.words.specs.declared.Verdict.{Verdict}
 use Rattle.rules.specs.Table.{Table, fresh}
 use Rattle.rules.specs.Outcome.{Call, Outcome, refuse, refuse_if}
 use Rattle.rules.specs.Run.{run, after, in_range, entry}
@@ -177,7 +177,7 @@ unfolding make_no
 can_make n c s r f =
     record {
       before = s;
-      verdict = Verdict.Accepted;
+      verdict = (Ok tt);
       makes = make_done n c s.words s.bytes s.tokens true (sym r) refl true (sym f) (fresh_words n c s.words) refl refl;
       accepted = rw (r, f);
     }

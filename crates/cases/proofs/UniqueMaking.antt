@@ -3,9 +3,8 @@ use Prim.Native.Nat.{ℕ}
 use mathlib.Core.Path.{◌≡◌, refl, sym, ap, ◌∙◌}
 use mathlib.Core.Logic.{◌≢◌}
 use native.Mathlib.Omega.{arith}
+use Rattle.std.specs.Prelude.{Result, Ok, Err}
 use Rattle.words.specs.Numbers.{number_of, refusal_of}
-use Rattle.words.specs.declared.Verdict.{Verdict}
-use Rattle.words.specs.declared.Verdict.TheVariants.{Accepted, Refused}
 use Rattle.words.specs.declared.Errno.{Errno}
 use Rattle.words.proofs.Names.{one_name}
 use Rattle.storage.specs.Rows.{Store}
@@ -32,11 +31,11 @@ never-zero Errno.ENAMETOOLONG z = omega arith
 never-zero Errno.SHORT z = omega arith
 never-zero Errno.DAMAGED z = omega arith
 
-pub one_verdict : (v u : Verdict) → refusal_of v ≡ refusal_of u → v ≡ u
-one_verdict Accepted Accepted e = refl
-one_verdict Accepted (Refused y) e = absurd (never-zero y (sym e))
-one_verdict (Refused x) Accepted e = absurd (never-zero x e)
-one_verdict (Refused x) (Refused y) e = ap Refused (one_name x y e)
+pub one_verdict : (v u : Result Unit Errno) → refusal_of v ≡ refusal_of u → v ≡ u
+one_verdict (Ok _) (Ok _) e = refl
+one_verdict (Ok _) (Err y) e = absurd (never-zero y (sym e))
+one_verdict (Err x) (Ok _) e = absurd (never-zero x e)
+one_verdict (Err x) (Err y) e = ap Err (one_name x y e)
 
-pub one_making : (n c : ℕ) (s s₁ s₂ : Store) (r₁ r₂ : Verdict) → Makes n c s s₁ r₁ → Makes n c s s₂ r₂ → (r₁ ≡ r₂) × (s₁ ≡ s₂)
+pub one_making : (n c : ℕ) (s s₁ s₂ : Store) (r₁ r₂ : Result Unit Errno) → Makes n c s s₁ r₁ → Makes n c s s₂ r₂ → (r₁ ≡ r₂) × (s₁ ≡ s₂)
 one_making n c s s₁ s₂ r₁ r₂ p q = (one_verdict r₁ r₂ (p.answers ∙ sym q.answers), p.storage ∙ sym q.storage)

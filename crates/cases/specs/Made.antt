@@ -1,6 +1,6 @@
 -- A made table, and which of the calls that follow it has taken.
-use Rattle.std.specs.Prelude.{ℕ, ◌≡◌, Bool, cond, List, [], ◌∷◌, ◌++◌, eqb, length}
-use Rattle.words.specs.declared.Verdict.{Verdict}
+use Rattle.words.specs.declared.Errno.{Errno}
+use Rattle.std.specs.Prelude.{ℕ, ◌≡◌, Bool, cond, List, [], ◌∷◌, ◌++◌, eqb, length, Result}
 use Rattle.rules.specs.Outcome.{Call}
 use Rattle.storage.specs.Rows.{Store}
 use Rattle.table.specs.Admission.{admits}
@@ -10,7 +10,7 @@ use Rattle.cases.specs.Step.{Request, Reached}
 -- some storage was lent to making, which accepted, and left this one
 pub record Made (n c : ℕ) (s : Store) : Type 0 where
   pub before : Store
-  pub verdict : Verdict
+  pub verdict : Result Unit Errno
   pub makes : Makes n c before s verdict
   pub accepted : make_no n c before ≡ 0
 

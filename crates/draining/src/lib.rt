@@ -7,12 +7,13 @@ ghost use Rattle.rules.specs.Outcome.{Call};
 ghost use Rattle.storage.specs.Rows.{lent};
 ghost use Rattle.storage.specs.Finding.{live_in};
 ghost use Rattle.table.specs.Admission.{Admitted};
+ghost use Rattle.promise.specs.Answers.{told};
 ghost use Rattle.promise.specs.Promise.{lists, Runs, Fills};
 ghost use Rattle.draining.specs.Parts.{Drains, nothing_queued, Wakes};
 
 use inbox::AttachedItems;
-use promise::Answer;
-use storage::{State, handles, inboxes};
+use promise::Accepted;
+use storage::{Connection, State, handles, inboxes};
 use words::{Errno, Handle};
 
 pub fn read_admitted(
@@ -25,13 +26,13 @@ pub fn read_admitted(
     c: usize,
     h: Handle,
     buf: &mut [u8],
-) -> Answer
+) -> Result<Accepted, Errno>
     requires { Admitted n c (lent words.old bytes.now tokens.now) (length wakes.old) (length releases.old) }
-    ensures runs { Runs (Call.Read h.0 (length buf.old)) n c (lent words.old bytes.now tokens.now) (lent words.new bytes.now tokens.now) (lists wakes.old releases.old) (lists wakes.new releases.new) result }
+    ensures runs { Runs (Call.Read h.0 (length buf.old)) n c (lent words.old bytes.now tokens.now) (lent words.new bytes.now tokens.now) (lists wakes.old releases.old) (lists wakes.new releases.new) (told result) }
     ensures fills { Fills (Call.Read h.0 (length buf.old)) n c (lent words.old bytes.now tokens.now) buf.old buf.new [] [] }
 {
     if !handles::is_live(words, n, h) {
-        return promise::refused(Errno::EBADF);
+        return Err(Errno::EBADF);
     }
     // nothing is handed over
     let mut items = [0; 1];
@@ -52,16 +53,16 @@ pub fn recvmsg_admitted(
     h: Handle,
     buf: &mut [u8],
     items: &mut [u32],
-) -> Answer
+) -> Result<Accepted, Errno>
     requires { Admitted n c (lent words.old bytes.now tokens.now) (length wakes.old) (length releases.old) }
-    ensures runs { Runs (Call.Recvmsg h.0 (length buf.old) (length items.old)) n c (lent words.old bytes.now tokens.now) (lent words.new bytes.now tokens.now) (lists wakes.old releases.old) (lists wakes.new releases.new) result }
+    ensures runs { Runs (Call.Recvmsg h.0 (length buf.old) (length items.old)) n c (lent words.old bytes.now tokens.now) (lent words.new bytes.now tokens.now) (lists wakes.old releases.old) (lists wakes.new releases.new) (told result) }
     ensures fills { Fills (Call.Recvmsg h.0 (length buf.old) (length items.old)) n c (lent words.old bytes.now tokens.now) buf.old buf.new items.old items.new }
 {
     if !handles::is_live(words, n, h) {
-        return promise::refused(Errno::EBADF);
+        return Err(Errno::EBADF);
     }
     if buf.len() == 0 {
-        return promise::refused(Errno::EINVAL);
+        return Err(Errno::EINVAL);
     }
     let policy = AttachedItems::Take;
     drain(
@@ -83,19 +84,17 @@ fn drain(
     buf: &mut [u8],
     policy: AttachedItems,
     items: &mut [u32],
-) -> Answer
+) -> Result<Accepted, Errno>
     requires admitted { Admitted n c (lent words.old bytes.now tokens.now) (length wakes.old) (length releases.old) }
     requires live { live_in n words.old h.0 ≡ true }
-    ensures { Drains n c (lent words.old bytes.now tokens.now) (lent words.new bytes.now tokens.now) h.0 (policy_of policy (length items.old)) buf.old buf.new items.old items.new (lists wakes.old releases.old) (lists wakes.new releases.new) result }
+    ensures { Drains n c (lent words.old bytes.now tokens.now) (lent words.new bytes.now tokens.now) h.0 (policy_of policy (length items.old)) buf.old buf.new items.old items.new (lists wakes.old releases.old) (lists wakes.new releases.new) (told result) }
 {
     let i = handles::slot_of(h);
     let slot = storage::load(words, i);
-    let state = slot.state;
-    let State::Connected(connection) = state else {
-        return promise::refused(Errno::ENOTCONN);
+    let State::Connected(connection) = slot.state else {
+        return Err(Errno::ENOTCONN);
     };
-    let peer = connection.peer;
-    let inbox = connection.inbox;
+    let Connection { peer, inbox, .. } = connection;
     let peer_open = handles::is_open(words, n, peer);
     if inbox.queued() == 0 {
         return nothing_queued(connection.inbox_closed, peer_open);
@@ -103,30 +102,25 @@ fn drain(
     let taken = inboxes::take(
         words, bytes, tokens, n, c, i, inbox, buf, policy, items, releases,
     );
-    let inbox = taken.inbox;
-    storage::store_inbox(words, i, slot.generation, connection, inbox);
+    storage::store_inbox(words, i, slot.generation, connection, taken.inbox);
     let woken = wake(wakes, peer, peer_open);
-    Answer {
-        refusal: 0,
+    Ok(Accepted {
         flags: taken.flags,
         value: taken.moved as u64,
         items: taken.items as u64,
         wakes: woken,
         releases: taken.released as u64,
-    }
+    })
 }
 
 // "0 bytes if the inbox is closed or the peer gone, else 8; no wake"
-fn nothing_queued(inbox_closed: bool, peer_open: bool) -> Answer
-    ensures { result ≡ nothing_queued inbox_closed peer_open }
+fn nothing_queued(inbox_closed: bool, peer_open: bool) -> Result<Accepted, Errno>
+    ensures { told result ≡ nothing_queued inbox_closed peer_open }
 {
-    if inbox_closed {
-        return promise::accepted(0, 0);
+    if peer_open && !inbox_closed {
+        return Err(Errno::EAGAIN);
     }
-    if !peer_open {
-        return promise::accepted(0, 0);
-    }
-    promise::refused(Errno::EAGAIN)
+    Ok(Accepted::new(0, 0))
 }
 
 // Puts `h` into the wake list where it is to be woken; how many that makes.

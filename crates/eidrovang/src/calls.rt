@@ -15,7 +15,7 @@ use words::Handle;
 pub extern "C" fn eid_sizes(n: usize, c: usize) -> Least
     ensures { result ≡ least_of n c }
 {
-    unix_socket::sizes(n, c)
+    Least::from(unix_socket::sizes(n, c))
 }
 
 #[unsafe(no_mangle)]
@@ -28,7 +28,7 @@ pub extern "C" fn eid_make(
 ) -> u32
     ensures { Told (Makes n c (lent words.old bytes.now tokens.now) (lent words.new bytes.now tokens.now)) result }
 {
-    unix_socket::make(words, bytes, tokens, n, c).number()
+    words::refusal(unix_socket::make(words, bytes, tokens, n, c))
 }
 
 #[unsafe(no_mangle)]
@@ -46,9 +46,9 @@ pub extern "C" fn eid_socket(
 ) -> Answer
     ensures { Promise (Call.Socket domain ty protocol) n c (lent words.old bytes.now tokens.now) (lent words.new bytes.now tokens.now) (lists wakes.now releases.now) (lists wakes.now releases.now) result }
 {
-    unix_socket::socket(
+    Answer::from(unix_socket::socket(
         words, bytes, tokens, wakes, releases, n, c, domain, ty, protocol,
-    )
+    ))
 }
 
 #[unsafe(no_mangle)]
@@ -65,7 +65,7 @@ pub extern "C" fn eid_bind(
 ) -> Answer
     ensures { Promise (Call.Bind handle name.now) n c (lent words.old bytes.old tokens.now) (lent words.new bytes.new tokens.now) (lists wakes.now releases.now) (lists wakes.now releases.now) result }
 {
-    unix_socket::bind(
+    Answer::from(unix_socket::bind(
         words,
         bytes,
         tokens,
@@ -75,7 +75,7 @@ pub extern "C" fn eid_bind(
         c,
         Handle(handle),
         name,
-    )
+    ))
 }
 
 #[unsafe(no_mangle)]
@@ -92,7 +92,7 @@ pub extern "C" fn eid_listen(
 ) -> Answer
     ensures { Promise (Call.Listen handle backlog) n c (lent words.old bytes.now tokens.now) (lent words.new bytes.now tokens.now) (lists wakes.old releases.now) (lists wakes.new releases.now) result }
 {
-    unix_socket::listen(
+    Answer::from(unix_socket::listen(
         words,
         bytes,
         tokens,
@@ -102,7 +102,7 @@ pub extern "C" fn eid_listen(
         c,
         Handle(handle),
         backlog,
-    )
+    ))
 }
 
 #[unsafe(no_mangle)]
@@ -118,7 +118,7 @@ pub extern "C" fn eid_accept(
 ) -> Answer
     ensures { Promise (Call.Accept handle) n c (lent words.old bytes.now tokens.now) (lent words.new bytes.now tokens.now) (lists wakes.old releases.now) (lists wakes.new releases.now) result }
 {
-    unix_socket::accept(words, bytes, tokens, wakes, releases, n, c, Handle(handle))
+    Answer::from(unix_socket::accept(words, bytes, tokens, wakes, releases, n, c, Handle(handle)))
 }
 
 #[unsafe(no_mangle)]
@@ -135,7 +135,7 @@ pub extern "C" fn eid_connect(
 ) -> Answer
     ensures { Promise (Call.Connect handle name.now) n c (lent words.old bytes.now tokens.now) (lent words.new bytes.now tokens.now) (lists wakes.old releases.now) (lists wakes.new releases.now) result }
 {
-    unix_socket::connect(
+    Answer::from(unix_socket::connect(
         words,
         bytes,
         tokens,
@@ -145,7 +145,7 @@ pub extern "C" fn eid_connect(
         c,
         Handle(handle),
         name,
-    )
+    ))
 }
 
 #[unsafe(no_mangle)]
@@ -163,7 +163,7 @@ pub extern "C" fn eid_read(
     ensures promise { Promise (Call.Read handle (length buf.old)) n c (lent words.old bytes.now tokens.now) (lent words.new bytes.now tokens.now) (lists wakes.old releases.old) (lists wakes.new releases.new) result }
     ensures promise_fills { PromiseFills (Call.Read handle (length buf.old)) n c (lent words.old bytes.now tokens.now) (lists wakes.old releases.old) buf.old buf.new [] [] }
 {
-    unix_socket::read(
+    Answer::from(unix_socket::read(
         words,
         bytes,
         tokens,
@@ -173,7 +173,7 @@ pub extern "C" fn eid_read(
         c,
         Handle(handle),
         buf,
-    )
+    ))
 }
 
 #[unsafe(no_mangle)]
@@ -192,7 +192,7 @@ pub extern "C" fn eid_recvmsg(
     ensures promise { Promise (Call.Recvmsg handle (length buf.old) (length items.old)) n c (lent words.old bytes.now tokens.now) (lent words.new bytes.now tokens.now) (lists wakes.old releases.old) (lists wakes.new releases.new) result }
     ensures promise_fills { PromiseFills (Call.Recvmsg handle (length buf.old) (length items.old)) n c (lent words.old bytes.now tokens.now) (lists wakes.old releases.old) buf.old buf.new items.old items.new }
 {
-    unix_socket::recvmsg(
+    Answer::from(unix_socket::recvmsg(
         words,
         bytes,
         tokens,
@@ -203,7 +203,7 @@ pub extern "C" fn eid_recvmsg(
         Handle(handle),
         buf,
         items,
-    )
+    ))
 }
 
 #[unsafe(no_mangle)]
@@ -220,7 +220,7 @@ pub extern "C" fn eid_write(
 ) -> Answer
     ensures { Promise (Call.Write handle buf.now) n c (lent words.old bytes.old tokens.old) (lent words.new bytes.new tokens.new) (lists wakes.old releases.now) (lists wakes.new releases.now) result }
 {
-    unix_socket::write(
+    Answer::from(unix_socket::write(
         words,
         bytes,
         tokens,
@@ -230,7 +230,7 @@ pub extern "C" fn eid_write(
         c,
         Handle(handle),
         buf,
-    )
+    ))
 }
 
 #[unsafe(no_mangle)]
@@ -248,7 +248,7 @@ pub extern "C" fn eid_sendmsg(
 ) -> Answer
     ensures { Promise (Call.Sendmsg handle buf.now items.now) n c (lent words.old bytes.old tokens.old) (lent words.new bytes.new tokens.new) (lists wakes.old releases.now) (lists wakes.new releases.now) result }
 {
-    unix_socket::sendmsg(
+    Answer::from(unix_socket::sendmsg(
         words,
         bytes,
         tokens,
@@ -259,7 +259,7 @@ pub extern "C" fn eid_sendmsg(
         Handle(handle),
         buf,
         items,
-    )
+    ))
 }
 
 #[unsafe(no_mangle)]
@@ -276,7 +276,7 @@ pub extern "C" fn eid_shutdown(
 ) -> Answer
     ensures { Promise (Call.Shutdown handle how) n c (lent words.old bytes.now tokens.now) (lent words.new bytes.now tokens.now) (lists wakes.old releases.old) (lists wakes.new releases.new) result }
 {
-    unix_socket::shutdown(
+    Answer::from(unix_socket::shutdown(
         words,
         bytes,
         tokens,
@@ -286,7 +286,7 @@ pub extern "C" fn eid_shutdown(
         c,
         Handle(handle),
         how,
-    )
+    ))
 }
 
 #[unsafe(no_mangle)]
@@ -302,7 +302,7 @@ pub extern "C" fn eid_close(
 ) -> Answer
     ensures { Promise (Call.Close handle) n c (lent words.old bytes.now tokens.now) (lent words.new bytes.now tokens.now) (lists wakes.old releases.old) (lists wakes.new releases.new) result }
 {
-    unix_socket::close(words, bytes, tokens, wakes, releases, n, c, Handle(handle))
+    Answer::from(unix_socket::close(words, bytes, tokens, wakes, releases, n, c, Handle(handle)))
 }
 
 #[unsafe(no_mangle)]
@@ -318,5 +318,14 @@ pub extern "C" fn eid_readiness(
 ) -> Answer
     ensures { Promise (Call.Readiness handle) n c (lent words.now bytes.now tokens.now) (lent words.now bytes.now tokens.now) (lists wakes.now releases.now) (lists wakes.now releases.now) result }
 {
-    unix_socket::readiness(words, bytes, tokens, wakes, releases, n, c, Handle(handle))
+    Answer::from(unix_socket::readiness(
+        words,
+        bytes,
+        tokens,
+        wakes,
+        releases,
+        n,
+        c,
+        Handle(handle),
+    ))
 }

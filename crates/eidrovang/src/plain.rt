@@ -9,9 +9,9 @@ ghost use Rattle.syscall.specs.Control.{capacity_of};
 ghost use Rattle.syscall.specs.Promise.{Parsed, Encoded, SendParsed, recv_capacity_of};
 ghost use Rattle.eidrovang.specs.Numbers.{numbers, Shown, header_numbers, asked, how_number, direction_number, count_number, header_of, Told, Answered};
 
-use abi::{CmsgHdr, Count, How, Made, Message, MsgHdr, ShutdownHow};
+use abi::{CmsgHdr, MsgHdr, ShutdownHow};
 use address::SockAddrUn;
-use words::{Answer, Errno, Verdict};
+use words::Errno;
 
 // 01's number, and the value where it is 0.
 #[repr(C)]
@@ -51,27 +51,27 @@ pub extern "C" fn eid_is_utf8(bytes: &[u8]) -> bool
 pub extern "C" fn eid_address_new(path: &[u8], addr: &mut [u8]) -> u32
     ensures { Told (Wrote path.now addr.old addr.new) result }
 {
-    SockAddrUn::new(path, addr).number()
+    words::refusal(SockAddrUn::new(path, addr))
 }
 
 #[unsafe(no_mangle)]
 pub extern "C" fn eid_address_len(addr: &[u8]) -> EidNumber
     ensures { result ≡ numbers (length_of addr.now) }
 {
-    number(SockAddrUn::len(addr))
+    SockAddrUn::len(addr).into()
 }
 
 #[unsafe(no_mangle)]
 pub extern "C" fn eid_address_path(addr: &[u8]) -> EidPath
     ensures { Shown addr.now result }
 {
-    match SockAddrUn::path_refusal(addr) {
-        Verdict::Accepted => EidPath {
+    match SockAddrUn::path(addr) {
+        Ok(path) => EidPath {
             refusal: 0,
             start: 2,
-            length: SockAddrUn::path_of(addr).len(),
+            length: path.len(),
         },
-        Verdict::Refused(no) => EidPath {
+        Err(no) => EidPath {
             refusal: no.number(),
             start: 0,
             length: 0,
@@ -83,28 +83,28 @@ pub extern "C" fn eid_address_path(addr: &[u8]) -> EidPath
 pub extern "C" fn eid_cmsg_align(len: u64) -> EidNumber
     ensures { result ≡ numbers (align_of len) }
 {
-    number(CmsgHdr::align(len))
+    CmsgHdr::align(len).into()
 }
 
 #[unsafe(no_mangle)]
 pub extern "C" fn eid_cmsg_len(data_len: u64) -> EidNumber
     ensures { result ≡ numbers (len_of data_len) }
 {
-    number(CmsgHdr::len(data_len))
+    CmsgHdr::len(data_len).into()
 }
 
 #[unsafe(no_mangle)]
 pub extern "C" fn eid_cmsg_space(data_len: u64) -> EidNumber
     ensures { result ≡ numbers (space_of data_len) }
 {
-    number(CmsgHdr::space(data_len))
+    CmsgHdr::space(data_len).into()
 }
 
 #[unsafe(no_mangle)]
 pub extern "C" fn eid_scm_rights_space(fd_count: u64) -> EidNumber
     ensures { result ≡ numbers (rights_space_of fd_count) }
 {
-    number(CmsgHdr::scm_rights_space(fd_count))
+    CmsgHdr::scm_rights_space(fd_count).into()
 }
 
 #[unsafe(no_mangle)]
@@ -112,13 +112,13 @@ pub extern "C" fn eid_scm_rights(fd_count: u64) -> EidHeader
     ensures { result ≡ header_numbers (rights_of fd_count) }
 {
     match CmsgHdr::scm_rights(fd_count) {
-        Made::Is(hdr) => EidHeader {
+        Ok(hdr) => EidHeader {
             refusal: 0,
             cmsg_level: hdr.cmsg_level,
             cmsg_type: hdr.cmsg_type,
             cmsg_len: hdr.cmsg_len,
         },
-        Made::Refused(no) => EidHeader {
+        Err(no) => EidHeader {
             refusal: no.number(),
             cmsg_level: 0,
             cmsg_type: 0,
@@ -128,6 +128,7 @@ pub extern "C" fn eid_scm_rights(fd_count: u64) -> EidHeader
 }
 
 #[unsafe(no_mangle)]
+#[tactic(auto, unfolding(crate::specs::Numbers::count_number))]
 pub extern "C" fn eid_scm_rights_count(
     cmsg_len: u64,
     cmsg_level: i32,
@@ -137,51 +138,46 @@ pub extern "C" fn eid_scm_rights_count(
     ensures { result ≡ numbers (count_number (rights_count_of (header_of cmsg_len cmsg_level cmsg_type) control_len)) }
 {
     let hdr = CmsgHdr {
-        cmsg_len: cmsg_len,
-        cmsg_level: cmsg_level,
-        cmsg_type: cmsg_type,
+        cmsg_len,
+        cmsg_level,
+        cmsg_type,
     };
-    match hdr.scm_rights_count(control_len) {
-        Count::Of(n) => number(Answer::Is(n)),
-        Count::None => number(Answer::Refused(Errno::EINVAL)),
-    }
+    hdr.scm_rights_count(control_len)
+        .ok_or(Errno::EINVAL)
+        .into()
 }
 
 #[unsafe(no_mangle)]
+#[tactic(auto, unfolding(crate::specs::Numbers::asked))]
 pub extern "C" fn eid_iovec_count(hdr: &[u8]) -> EidNumber
     ensures { result ≡ numbers (asked iovec_count_of (message_of hdr.now)) }
 {
-    match MsgHdr::read(hdr) {
-        Message::Is(m) => number(m.iovec_count()),
-        Message::Refused(no) => number(Answer::Refused(no)),
-    }
+    MsgHdr::read(hdr).and_then(|hdr| hdr.iovec_count()).into()
 }
 
 #[unsafe(no_mangle)]
+#[tactic(auto, unfolding(crate::specs::Numbers::asked))]
 pub extern "C" fn eid_control_len(hdr: &[u8]) -> EidNumber
     ensures { result ≡ numbers (asked control_len_of (message_of hdr.now)) }
 {
-    match MsgHdr::read(hdr) {
-        Message::Is(m) => number(m.control_len()),
-        Message::Refused(no) => number(Answer::Refused(no)),
-    }
+    MsgHdr::read(hdr).and_then(|hdr| hdr.control_len()).into()
 }
 
 #[unsafe(no_mangle)]
+#[tactic(auto, unfolding(crate::specs::Numbers::how_number))]
 pub extern "C" fn eid_shutdown_how(how: i32) -> EidNumber
     ensures { result ≡ numbers (how_number (how_of how)) }
 {
-    match ShutdownHow::try_from(how) {
-        How::Is(direction) => number(Answer::Is(direction_number(direction))),
-        How::Refused(no) => number(Answer::Refused(no)),
-    }
+    ShutdownHow::try_from(how)
+        .map(|direction| direction as u64)
+        .into()
 }
 
 #[unsafe(no_mangle)]
 pub extern "C" fn eid_parse_scm_rights(control: &[u8], fds: &mut [i32]) -> EidNumber
     ensures { Answered (Parsed control.now fds.old fds.new) result }
 {
-    number(syscall::parse_scm_rights(control, fds))
+    syscall::parse_scm_rights(control, fds).into()
 }
 
 #[unsafe(no_mangle)]
@@ -195,38 +191,32 @@ pub extern "C" fn eid_scm_rights_capacity(controllen: u64) -> u64
 pub extern "C" fn eid_encode_scm_rights(fds: &[i32], control: &mut [u8]) -> EidNumber
     ensures { Answered (Encoded fds.now control.old control.new) result }
 {
-    number(syscall::encode_scm_rights(fds, control))
+    syscall::encode_scm_rights(fds, control).into()
 }
 
 #[unsafe(no_mangle)]
 pub extern "C" fn eid_sendmsg_control(flags: i32, control: &[u8], fds: &mut [i32]) -> EidNumber
     ensures { Answered (SendParsed flags control.now fds.old fds.new) result }
 {
-    number(syscall::sendmsg_control(flags, control, fds))
+    syscall::sendmsg_control(flags, control, fds).into()
 }
 
 #[unsafe(no_mangle)]
 pub extern "C" fn eid_recvmsg_capacity(flags: i32, controllen: u64) -> EidNumber
     ensures { result ≡ numbers (recv_capacity_of flags controllen) }
 {
-    number(syscall::recvmsg_capacity(flags, controllen))
+    syscall::recvmsg_capacity(flags, controllen).into()
 }
 
-fn number(answer: Answer) -> EidNumber
-    ensures { result ≡ numbers answer }
-{
-    EidNumber {
-        refusal: answer.number(),
-        value: answer.value(),
-    }
-}
+impl From<Result<u64, Errno>> for EidNumber {
+    ghost from_gives = { λ answer number. number ≡ numbers answer };
 
-fn direction_number(direction: ShutdownHow) -> u64
-    ensures { result ≡ direction_number direction }
-{
-    match direction {
-        ShutdownHow::Read => 0,
-        ShutdownHow::Write => 1,
-        ShutdownHow::Both => 2,
+    fn from(answer: Result<u64, Errno>) -> EidNumber
+        ensures { result ≡ numbers answer }
+    {
+        EidNumber {
+            refusal: words::refusal(answer),
+            value: words::value(answer),
+        }
     }
 }

@@ -5,7 +5,7 @@ ghost use Rattle.std.specs.Prelude.{◌≡◌, true, ◌+◌, ◌*◌, ◌≤◌
 ghost use Rattle.rules.specs.Outcome.{Call};
 ghost use Rattle.storage.specs.Rows.{lent};
 ghost use Rattle.table.specs.Admission.{Admitted};
-ghost use Rattle.promise.specs.Answers.{released_with};
+ghost use Rattle.promise.specs.Answers.{told};
 ghost use Rattle.promise.specs.Promise.{lists, Runs};
 ghost use Rattle.rules.specs.Table.{slot_of};
 ghost use Rattle.storage.specs.Cells.{cell_at, state_of, store_at, cell_of};
@@ -13,7 +13,7 @@ ghost use Rattle.storage.specs.Finding.{live_in};
 ghost use Rattle.storage.specs.declared.State.TheVariants.{Closed, Listening};
 ghost use Rattle.ending.specs.Leaving.{Ends, Fits, Serves, connection_in};
 
-use promise::Answer;
+use promise::Accepted;
 use storage::{Connection, Listener, Slot, State, handles, inboxes, queues};
 use words::{Errno, Handle};
 
@@ -24,25 +24,18 @@ struct Closing {
     releases: usize,
 }
 
-fn closed(done: Closing) -> Answer
-    ensures { result ≡ released_with done.wakes done.releases }
-{
-    Answer {
-        refusal: 0,
-        flags: 0,
-        value: 0,
-        items: 0,
-        wakes: done.wakes as u64,
-        releases: done.releases as u64,
-    }
-}
-
 fn leave(words: &mut [u64], i: usize, generation: u64)
     requires { 8 + 16 * i + 16 ≤ length words.old }
     ensures { words.new ≡ store_at words.old i (cell_of generation Closed) }
 {
-    let state = State::Closed;
-    storage::store(words, i, Slot { generation, state });
+    storage::store(
+        words,
+        i,
+        Slot {
+            generation,
+            state: State::Closed,
+        },
+    );
 }
 
 // The connected socket in slot `i` closes: its items are released, its open peer is woken.
@@ -64,22 +57,20 @@ fn end(
     ensures { Ends n i generation connection words.old words.new tokens.now wakes.old wakes.new releases.old releases.new done result }
 {
     let peer_open = handles::is_open(words, n, connection.peer);
-    let inbox = connection.inbox;
-    let discarded = inboxes::discard(tokens, c, i, inbox, releases, done.releases);
-    let released = done.releases + discarded.released;
+    let discarded = inboxes::discard(tokens, c, i, connection.inbox, releases, done.releases);
+    let done = Closing {
+        releases: done.releases + discarded.released,
+        ..done
+    };
     leave(words, i, generation);
-    let woken = done.wakes;
     if peer_open {
-        wakes[woken] = connection.peer.0;
+        wakes[done.wakes] = connection.peer.0;
         return Closing {
-            wakes: woken + 1,
-            releases: released,
+            wakes: done.wakes + 1,
+            ..done
         };
     }
-    Closing {
-        wakes: woken,
-        releases: released,
-    }
+    done
 }
 
 // A pending server closes.
@@ -100,9 +91,8 @@ fn end_server(
 {
     let i = handles::slot_of(server);
     let slot = storage::load(words, i);
-    let state = slot.state;
     // a pending server is connected
-    let State::Connected(connection) = state else {
+    let State::Connected(connection) = slot.state else {
         return done;
     };
     end(
@@ -131,11 +121,11 @@ fn end_listener(
     h: Handle,
     generation: u64,
     listener: Listener,
-) -> Answer
+) -> Result<Accepted, Errno>
     requires admitted { Admitted n c (lent words.old bytes.now tokens.now) (length wakes.old) (length releases.old) }
     requires live { live_in n words.old h.0 ≡ true }
     requires listens { (state_of (cell_at words.old (slot_of h.0)) ≡ Listening listener) × (generation ≡ (cell_at words.old (slot_of h.0)).generation) }
-    ensures { Runs (Call.Close h.0) n c (lent words.old bytes.now tokens.now) (lent words.new bytes.now tokens.now) (lists wakes.old releases.old) (lists wakes.new releases.new) result }
+    ensures { Runs (Call.Close h.0) n c (lent words.old bytes.now tokens.now) (lent words.new bytes.now tokens.now) (lists wakes.old releases.old) (lists wakes.new releases.new) (told result) }
 {
     let i = handles::slot_of(h);
     leave(words, i, generation);
@@ -144,13 +134,11 @@ fn end_listener(
         wakes: 1,
         releases: 0,
     };
-    let mut k = 0;
-    while k < listener.pending {
+    for k in 0..listener.pending {
         let server = queues::entry(words, n, i, ring::place(n, listener.head + k));
         done = end_server(words, tokens, wakes, releases, n, c, server, done);
-        k += 1;
     }
-    closed(done)
+    Ok(Accepted::releasing(done.wakes, done.releases))
 }
 
 pub fn close_admitted(
@@ -162,28 +150,27 @@ pub fn close_admitted(
     n: usize,
     c: usize,
     h: Handle,
-) -> Answer
+) -> Result<Accepted, Errno>
     requires { Admitted n c (lent words.old bytes.now tokens.now) (length wakes.old) (length releases.old) }
-    ensures { Runs (Call.Close h.0) n c (lent words.old bytes.now tokens.now) (lent words.new bytes.now tokens.now) (lists wakes.old releases.old) (lists wakes.new releases.new) result }
+    ensures { Runs (Call.Close h.0) n c (lent words.old bytes.now tokens.now) (lent words.new bytes.now tokens.now) (lists wakes.old releases.old) (lists wakes.new releases.new) (told result) }
 {
     if !handles::is_live(words, n, h) {
-        return promise::refused(Errno::EBADF);
+        return Err(Errno::EBADF);
     }
     let i = handles::slot_of(h);
     let slot = storage::load(words, i);
     let generation = slot.generation;
-    let state = slot.state;
-    match state {
+    match slot.state {
         // no live socket is closed
-        State::Closed => promise::refused(Errno::DAMAGED),
+        State::Closed => Err(Errno::DAMAGED),
         State::Unbound => {
             leave(words, i, generation);
-            promise::accepted(0, 0)
+            Ok(Accepted::new(0, 0))
         }
         State::Bound(_) => {
             leave(words, i, generation);
             wakes[0] = 0;
-            promise::accepted(0, 1)
+            Ok(Accepted::new(0, 1))
         }
         State::Listening(listener) => end_listener(
             words, bytes, tokens, wakes, releases, n, c, h, generation, listener,
@@ -193,9 +180,10 @@ pub fn close_admitted(
                 wakes: 0,
                 releases: 0,
             };
-            closed(end(
+            let done = end(
                 words, tokens, wakes, releases, n, c, i, generation, connection, none,
-            ))
+            );
+            Ok(Accepted::releasing(done.wakes, done.releases))
         }
     }
 }

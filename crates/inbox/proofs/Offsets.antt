@@ -3,9 +3,9 @@ use Rattle.std.proofs.Common.{◌≡◌, ℕ, ◌+◌, ◌-◌, ◌%◌, ◌^◌
 use Rattle.inbox.specs.View.{dist}
 
 -- what a subtraction that wraps leaves
-pub dist_wraps : (r a b : ℕ) → (r + b) % 2 ^ 64 ≡ a → r < 2 ^ 64 → b < 2 ^ 64 → r ≡ dist a b
+pub dist_wraps : (a b : ℕ) → b < 2 ^ 64 → (a + (2 ^ 64 - b)) % 2 ^ 64 ≡ dist a b
 unfolding dist
-dist_wraps r a b e hr hb = omega arith
+dist_wraps a b h = omega arith
 
 -- k nearer
 gone : (p r k : ℕ) → r < 2 ^ 64 → k ≤ (p + (2 ^ 64 - r)) % 2 ^ 64 → (p + (2 ^ 64 - (r + k) % 2 ^ 64)) % 2 ^ 64 ≡ (p + (2 ^ 64 - r)) % 2 ^ 64 - k
@@ -26,11 +26,3 @@ dist_come w r k h = omega arith
 pub dist_meets : (w r : ℕ) → w < 2 ^ 64 → (r + dist w r) % 2 ^ 64 ≡ w
 unfolding dist
 dist_meets w r h = omega arith
-
-pub dist_same : (w : ℕ) → dist w w ≡ 0
-unfolding dist
-dist_same w = omega arith
-
-pub dist-zero : (a b : ℕ) → a < 2 ^ 64 → b < 2 ^ 64 → dist a b ≡ 0 → a ≡ b
-unfolding dist
-dist-zero a b ha hb z = omega arith

@@ -6,7 +6,8 @@ use lib.Seq.{paste, take-length}
 use Rattle.laws.proofs.Tests.{less_or, cond_both}
 use Rattle.ring.specs.Ring.{place_of, queued, whole}
 use Rattle.ring.proofs.Queued.{queued-length, queued-take, queued-drop, pasted}
-use Rattle.ring.proofs.Copying.{place_is, take-replicate}
+use Rattle.std.proofs.lemmas.List.{take-replicate}
+use Rattle.ring.proofs.Copying.{place_is}
 use Rattle.rules.specs.Table as model
 use Rattle.rules.specs.Inbox.{nothing, is_nil, all_items, append, group, up_to, moved, nearer, rest}
 use Rattle.inbox.specs.View.{dist, count, bytes_of, items_in, distances, groups_of, view, front, nearest}

@@ -19,3 +19,7 @@ pub record Well (c : ℕ) (places : List ℕ) (q : Inbox) : Type 0 where
   pub first_in : q.first < 256
   pub items-in : q.items ≤ 256
   pub rising : rises 0 (count q) (distances q places) ≡ true
+
+-- the items lie in their rings of 256
+abbrev pub ItemsFit : Inbox → Type 0
+ItemsFit q = (q.first < 256) × (q.items ≤ 256)

@@ -3,14 +3,14 @@
 // rings of 256: its token, and the stream offset of the byte that carries it.
 #![tactic(auto)]
 
-ghost use Rattle.std.specs.Prelude.{◌≡◌, ◌+◌, ◌-◌, ◌<◌, ◌≤◌, min, true, false, length, drop};
+ghost use Rattle.std.specs.Prelude.{◌≡◌, ◌+◌, ◌-◌, ◌<◌, ◌≤◌, length, drop, slice_index};
 ghost use Rattle.ring.specs.Ring.{place_of, queued};
 ghost use Rattle.words.specs.Numbers.{refusal_of};
 ghost use Rattle.inbox.specs.View.{dist, count, distances, front, nearest};
-ghost use Rattle.inbox.specs.Well.{rises, is_well, Well};
+ghost use Rattle.inbox.specs.Well.{rises, is_well, Well, ItemsFit};
 ghost use Rattle.inbox.specs.Promise.{none, push_no, MayPush, Pushes, policy_of, handed_of, flags_for, Hands, move_on, Takes, Discards};
 
-use words::{Errno, Verdict};
+use words::Errno;
 
 // A sender gets ENOBUFS above the limit.
 pub const MAX_PENDING_ATTACHED: usize = 256;
@@ -28,7 +28,7 @@ impl AttachedItems {
         ensures { result ≡ handed_of self g n }
     {
         match self {
-            AttachedItems::Take => least(g, n),
+            AttachedItems::Take => g.min(n),
             AttachedItems::Drop => 0,
         }
     }
@@ -38,15 +38,15 @@ impl AttachedItems {
         ensures { result ≡ flags_for self g m }
     {
         match self {
-            AttachedItems::Take => { if m < g { abi::MSG_CTRUNC as u32 } else { 0 } }
-            AttachedItems::Drop => 0,
+            AttachedItems::Take if m < g => abi::MSG_CTRUNC as u32,
+            _ => 0,
         }
     }
 }
 
 // Where an inbox stands in its rings: the first queued byte, the bytes ever written and ever read
 // (both go round at 2^64), the first queued item, and how many items there are.
-#[derive(Clone, Copy)]
+#[derive(Clone, Copy, Default)]
 pub struct Inbox {
     pub head: usize,
     pub written_total: u64,
@@ -66,6 +66,7 @@ pub struct Taken {
     pub moved: usize,
     pub items: usize,
     pub released: usize,
+    // Stays: the C interface, a recvmsg's flags.
     pub flags: u32,
     pub inbox: Inbox,
 }
@@ -77,16 +78,10 @@ pub struct Discarded {
 }
 
 impl Inbox {
-    pub fn new() -> Inbox
+    pub fn new() -> Self
         ensures { result ≡ none }
     {
-        Inbox {
-            head: 0,
-            written_total: 0,
-            read_total: 0,
-            first: 0,
-            items: 0,
-        }
+        Self::default()
     }
 
     // How many bytes are queued.
@@ -107,26 +102,27 @@ impl Inbox {
     // ── push ──
 
     // What a push into an inbox of `c` is refused with.
-    pub fn push_refusal(self, c: usize, bytes: usize, items: usize) -> Verdict
+    pub fn push_refusal(self, c: usize, bytes: usize, items: usize) -> Result<(), Errno>
         requires { (count self ≤ c) × (self.items ≤ 256) }
         ensures { refusal_of result ≡ push_no c (count self) bytes self.items items }
     {
         if self.room(c) == 0 {
-            return Verdict::Refused(Errno::EAGAIN);
+            return Err(Errno::EAGAIN);
         }
         if items == 0 {
-            return Verdict::Accepted;
+            return Ok(());
         }
         if bytes == 0 {
-            return Verdict::Refused(Errno::EINVAL);
+            return Err(Errno::EINVAL);
         }
         if MAX_PENDING_ATTACHED - self.items < items {
-            return Verdict::Refused(Errno::ENOBUFS);
+            return Err(Errno::ENOBUFS);
         }
-        Verdict::Accepted
+        Ok(())
     }
 
     // Appends what fits of `buf`, and attaches the items to its first byte.
+    #[tactic(auto, using(crate::proofs::Parts::may_fit))]
     pub fn push(
         self,
         ring: &mut [u8],
@@ -140,19 +136,17 @@ impl Inbox {
         requires may_push { MayPush (length ring.old) self buf.now items.now }
         ensures { Pushes ring.old ring.new places.old places.new tokens.old tokens.new buf.now items.now self result }
     {
-        let k = least(self.room(ring.len()), buf.len());
+        let k = self.room(ring.len()).min(buf.len());
         let m = items.len();
-        ring::write_u8(ring, self.head, self.queued(), buf, k);
-        ring::fill_u64(places, self.first, self.items, self.written_total, m);
-        ring::write_u32(tokens, self.first, self.items, items, m);
+        ring::write(ring, self.head, self.queued(), &buf[..k]);
+        ring::fill(places, self.first, self.items, self.written_total, m);
+        ring::write(tokens, self.first, self.items, items);
         Pushed {
             moved: k,
             inbox: Inbox {
-                head: self.head,
-                written_total: std::num::wrapping_add_u64(self.written_total, k as u64),
-                read_total: self.read_total,
-                first: self.first,
+                written_total: self.written_total.wrapping_add(k as u64),
                 items: self.items + m,
+                ..self
             },
         }
     }
@@ -162,6 +156,7 @@ impl Inbox {
     // Removes the group at the first queued byte, and moves bytes up to the next group. `policy`
     // says where the group goes: to `items` as far as that has room, the rest to `releases`; or all
     // of it to `releases`.
+    #[tactic(auto, using(crate::proofs::Shows::reach_le, crate::proofs::Parts::handed_few))]
     pub fn take(
         self,
         ring: &[u8],
@@ -176,10 +171,14 @@ impl Inbox {
         requires rings { (length ring.now ≤ 65536) × (length places.now ≡ 256) × (length tokens.now ≡ 256) × (256 ≤ length releases.old) }
         ensures { Takes ring.now places.now tokens.now buf.old buf.new (policy_of policy (length items.old)) items.old items.new releases.old releases.new self result }
     {
-        let g = self.group(places);
-        let k = least(buf.len(), self.reach(places, g));
+        let entries = Entries {
+            inbox: self,
+            places,
+        };
+        let g = entries.group();
+        let k = buf.len().min(entries.reach(g));
         let m = policy.handed(g, items.len());
-        ring::read_u8(ring, self.head, buf, 0, k);
+        ring::read(ring, self.head, &mut buf[..k]);
         self.hand_over(tokens, g, m, items, releases);
         Taken {
             moved: k,
@@ -190,54 +189,29 @@ impl Inbox {
         }
     }
 
-    // How many items are attached to the first queued byte.
-    fn group(self, places: &[u64]) -> usize
-        requires { (self.first < 256) × (self.items ≤ 256) × (length places.now ≡ 256) }
-        ensures { (result ≡ front (distances self places.now)) × (result ≤ self.items) }
-    {
-        let mut i = 0;
-        while i < self.items {
-            if places[place(self.first + i)] != self.read_total {
-                return i;
-            }
-            i += 1;
-        }
-        self.items
-    }
-
-    // How far it is to the byte that carries the item `g`, or to the end where there is none.
-    fn reach(self, places: &[u64], g: usize) -> usize
-        requires { (self.first < 256) × (self.items ≤ 256) × (length places.now ≡ 256) × (g ≤ self.items) }
-        ensures { result ≡ nearest (count self) (drop g (distances self places.now)) }
-    {
-        if g < self.items {
-            distance(places[place(self.first + g)], self.read_total)
-        } else {
-            self.queued()
-        }
-    }
-
     // The first `m` of the first `g` items to `items`, the others to `releases`.
     fn hand_over(self, tokens: &[u32], g: usize, m: usize, items: &mut [u32], releases: &mut [u32])
         requires group_in { (self.first < 256) × (length tokens.now ≡ 256) × (m ≤ g) × (g ≤ 256) }
         requires lists_room { (m ≤ length items.old) × (256 ≤ length releases.old) }
         ensures { Hands (queued tokens.now self.first g) m items.old items.new releases.old releases.new }
     {
-        ring::read_u32(tokens, self.first, items, 0, m);
-        ring::read_u32(tokens, place(self.first + m), releases, 0, g - m);
+        ring::read(tokens, self.first, &mut items[..m]);
+        ring::read(tokens, place(self.first + m), &mut releases[..g - m]);
     }
 
     // The numbers when the first `k` bytes and the first `g` items are gone.
     fn moved_on(self, c: usize, k: usize, g: usize) -> Inbox
-        requires { (self.head < c) × (k ≤ c) × (c ≤ 65536) × (self.first < 256) × (self.items ≤ 256) × (g ≤ self.items) }
+        requires head_in { (self.head < c) × (k ≤ c) × (c ≤ 65536) }
+        requires items_in { ItemsFit self }
+        requires group_in { g ≤ self.items }
         ensures { result ≡ move_on c self k g }
     {
         Inbox {
             head: ring::place(c, self.head + k),
-            written_total: self.written_total,
-            read_total: std::num::wrapping_add_u64(self.read_total, k as u64),
+            read_total: self.read_total.wrapping_add(k as u64),
             first: place(self.first + g),
             items: self.items - g,
+            ..self
         }
     }
 
@@ -245,11 +219,12 @@ impl Inbox {
 
     // Drops all bytes of an inbox of `c`; all items go to `releases`, from `at` on.
     pub fn discard(self, c: usize, tokens: &[u32], releases: &mut [u32], at: usize) -> Discarded
-        requires inbox_in { (self.head < c) × (count self ≤ c) × (c ≤ 65536) × (self.first < 256) × (self.items ≤ 256) }
+        requires inbox_in { (self.head < c) × (count self ≤ c) × (c ≤ 65536) }
+        requires items_in { ItemsFit self }
         requires lists_room { (length tokens.now ≡ 256) × (at + self.items ≤ length releases.old) }
         ensures { Discards c tokens.now releases.old releases.new at self result }
     {
-        ring::read_u32(tokens, self.first, releases, at, self.items);
+        ring::read(tokens, self.first, &mut releases[at..at + self.items]);
         Discarded {
             released: self.items,
             inbox: self.moved_on(c, self.queued(), self.items),
@@ -263,44 +238,78 @@ impl Inbox {
         requires { length places.now ≡ 256 }
         ensures { result ≡ is_well c places.now self }
     {
-        if c <= self.head {
-            return false;
-        }
-        if c < self.queued() {
-            return false;
-        }
-        if 256 <= self.first {
-            return false;
-        }
-        if 256 < self.items {
-            return false;
-        }
-        self.rising(places)
+        self.head < c
+            && self.queued() <= c
+            && self.first < 256
+            && self.items <= MAX_PENDING_ATTACHED
+            && Entries {
+                inbox: self,
+                places,
+            }
+            .rise()
+    }
+}
+
+// The entries of an inbox's items in the ring of their places.
+#[derive(Clone, Copy)]
+struct Entries<'a> {
+    inbox: Inbox,
+    places: &'a [u64],
+    ghost items_in: { ItemsFit inbox },
+    ghost all_places: { length places.now ≡ 256 },
+}
+
+impl Entries<'_> {
+    // How far the byte that carries the item `i` lies behind the first queued byte.
+    fn distance(&self, i: usize) -> usize
+        requires { i < self.now.inbox.items }
+        ensures { result ≡ slice_index (distances self.now.inbox self.now.places.now) i }
+    {
+        distance(
+            self.places[place(self.inbox.first + i)],
+            self.inbox.read_total,
+        )
     }
 
-    fn rising(self, places: &[u64]) -> bool
-        requires { (self.first < 256) × (self.items ≤ 256) × (length places.now ≡ 256) }
-        ensures { result ≡ rises 0 (count self) (distances self places.now) }
+    // How many items are attached to the first queued byte.
+    fn group(&self) -> usize
+        ensures { (result ≡ front (distances self.now.inbox self.now.places.now)) × (result ≤ self.now.inbox.items) }
     {
-        let n = self.queued();
+        (0..self.inbox.items)
+            .position(|i| self.distance(i) != 0)
+            .unwrap_or(self.inbox.items)
+    }
+
+    // How far it is to the byte that carries the item `g`, or to the end where there is none.
+    fn reach(&self, g: usize) -> usize
+        ensures { result ≡ nearest (count self.now.inbox) (drop g (distances self.now.inbox self.now.places.now)) }
+    {
+        if g < self.inbox.items {
+            self.distance(g)
+        } else {
+            self.inbox.queued()
+        }
+    }
+
+    // The places rise inside the queued bytes.
+    fn rise(&self) -> bool
+        ensures { result ≡ rises 0 (count self.now.inbox) (distances self.now.inbox self.now.places.now) }
+    {
+        let n = self.inbox.queued();
         let mut low = 0;
-        let mut i = 0;
-        while i < self.items {
-            let d = distance(places[place(self.first + i)], self.read_total);
-            if d < low {
-                return false;
-            }
-            if n <= d {
+        for i in 0..self.inbox.items {
+            let d = self.distance(i);
+            if d < low || n <= d {
                 return false;
             }
             low = d;
-            i += 1;
         }
         true
     }
 }
 
 // The place of entry `k` in the rings of the items: `ring::place` for 256, in one operation.
+// Stays: tried, `ring::place(256, k)` misses the bar of 1 ns for each item that the check looks at.
 fn place(k: usize) -> usize
     requires { k < 512 }
     ensures { (result ≡ place_of 256 k) × (result < 256) }
@@ -312,11 +321,5 @@ fn place(k: usize) -> usize
 fn distance(to: u64, from: u64) -> usize
     ensures { result ≡ dist to from }
 {
-    std::num::wrapping_sub_u64(to, from) as usize
-}
-
-fn least(a: usize, b: usize) -> usize
-    ensures { result ≡ min a b }
-{
-    if a < b { a } else { b }
+    to.wrapping_sub(from) as usize
 }

@@ -1,18 +1,21 @@
 -- The laws of little-endian numbers, each once over the width.
-use mathlib.Core.Path.{◌≡◌, refl, sym, ◌∙◌, ap}
+use mathlib.Core.Path.{◌≡◌, refl, sym, ◌∙◌, ap, ap₂}
 use mathlib.Core.List.{List, [], ◌∷◌, ◌++◌}
-use Prim.Native.Nat.{ℕ, zero, suc, ◌+◌, ◌*◌, ◌/◌, ◌%◌, ◌^◌, ◌<◌, ◌≤◌}
+use Prim.Native.Nat.{ℕ, zero, suc, ◌+◌, ◌-◌, ◌*◌, ◌/◌, ◌%◌, ◌^◌, ◌<◌, ◌≤◌}
 use native.Mathlib.Omega.{arith}
-use native.Mathlib.Nat.{pow-suc, pow-succ', mul_assoc, suc-add, zero-add, add-zero, add-suc, div-div-eq-div-mul}
+use native.Mathlib.Nat.{pow-suc, pow-succ', mul_assoc, mul_comm, suc-add, zero-add, add-zero, add-suc, div-div-eq-div-mul}
 use native.Mathlib.Numerals.{add-one}
-use lib.Arith.{mod-mul}
-use lib.Dec.{lit<}
 use lib.IntN.{ℤ}
 use lib.ListN.{length, get_or, take, drop, set, length-set}
-use lib.Seq.{sets, drop-cons, get_or-append-add, get_or-take, get_or-drop, get_or-set_same, get_or-set_other}
+use lib.Seq.{sets, sets-eq, drop-cons, drop-drop, get_or-append-add, get_or-take, get_or-drop, get_or-set_same, get_or-set_other}
 use mir.Syntax.{w32}
 use mir.Val.{to_z, of_z, SFits}
 use mir.ValLaws.{to_z-of_z, of_z_fits}
+use Rattle.std.specs.Int.{sum_through, byte_worth, byte_at, bytes_low_first}
+use Rattle.std.proofs.Common.{append_assoc}
+use Rattle.std.specs.Prelude.{slice_index}
+use Rattle.std.specs.Array.{IsFirstChunk}
+use borrow.Rule.Slice.PartMut.{put_mid}
 use Rattle.le.specs.Le.{le, bytes}
 
 -- a number of j + k bytes is its low j bytes and, above them, its high k
@@ -24,14 +27,6 @@ le_split (suc j) k l p =
     let more : 256 ^ suc j * le k l (p + 1 + j) ≡ 256 * (256 ^ j * le k l (p + 1 + j)) = rw pow-succ' (mul_assoc 256 (256 ^ j) (le k l (p + 1 + j))) in
     rw (suc-add, le_split j k l (p + 1), e, more) (omega arith)
 
--- and so are its bytes
-pub bytes_split : (j k v : ℕ) → bytes (j + k) v ≡ bytes j v ++ bytes k (v / 256 ^ j)
-unfolding bytes
-bytes_split zero k v = let e : v / 1 ≡ v = omega arith in rw (zero-add k, e)
-bytes_split (suc j) k v =
-    let e : v / 256 / 256 ^ j ≡ v / 256 ^ suc j = rw pow-succ' (div-div-eq-div-mul v 256 (256 ^ j)) in
-    rw (suc-add, bytes_split j k (v / 256), e)
-
 pub length-bytes : (k v : ℕ) → length (bytes k v) ≡ k
 unfolding bytes
 length-bytes zero v = refl
@@ -41,26 +36,6 @@ length-bytes (suc k) v = ap suc (length-bytes k (v / 256))
 pub sets-append : (xs ys l : List ℕ) (p : ℕ) → sets l p (xs ++ ys) ≡ sets (sets l p xs) (p + length xs) ys
 sets-append [] ys l p = rw add-zero
 sets-append (x ∷ xs) ys l p = rw (add-suc, ← suc-add, sets-append xs ys (set l p x) (suc p))
-
-positive : (k : ℕ) → 0 < 256 ^ k
-positive zero = omega arith
-positive (suc k) = let h = positive k in rw pow-succ' (omega arith)
-
--- the low bytes do not see what lies above them
-bytes_low : (k v : ℕ) → bytes k (v % 256 ^ k) ≡ bytes k v
-unfolding bytes
-bytes_low zero v = refl
-bytes_low (suc k) v =
-    let e : v % 256 ^ suc k ≡ v / 256 % 256 ^ k * 256 + v % 256 = rw pow-suc (mod-mul v (positive k) (lit< tt)) in
-    let low : v % 256 ^ suc k % 256 ≡ v % 256 = omega arith in
-    let high : v % 256 ^ suc k / 256 ≡ v / 256 % 256 ^ k = omega arith in
-    rw (low, high, bytes_low k (v / 256))
-
--- a number is stored by its two halves
-pub halves : (j k v : ℕ) (l : List ℕ) (p : ℕ) → sets (sets l p (bytes j (v % 256 ^ j))) (p + j) (bytes k (v / 256 ^ j)) ≡ sets l p (bytes (j + k) v)
-halves j k v l p =
-    let e : p + j ≡ p + length (bytes j v) = ap (λ (n : ℕ). p + n) (sym (length-bytes j v)) in
-    rw (bytes_low j v, e, bytes_split j k v) (sym (sets-append (bytes j v) (bytes k (v / 256 ^ j)) l p))
 
 -- ── What is stored is read back ──
 
@@ -152,3 +127,40 @@ pub le_at : (k v : ℕ) (xs l : List ℕ) (p : ℕ) → v < 256 ^ k → length x
 le_at k v xs l p h e =
     let z : p ≡ length xs + 0 = omega arith in
     ap (le k (xs ++ (bytes k v ++ l))) z ∙ le_shift k xs (bytes k v ++ l) 0 ∙ front k v l h
+
+-- ── What std's methods of the numbers read and write ──
+
+pub from_le_bytes-is : (k : ℕ) (xs : List ℕ) → sum_through (λ i. byte_worth i (slice_index xs i)) k ≡ le (suc k) xs 0
+unfolding le
+from_le_bytes-is zero xs = omega arith
+from_le_bytes-is (suc k) xs =
+    let one : le 1 xs (0 + suc k) ≡ slice_index xs (suc k) = rw zero-add (omega arith) in
+    let e : le (suc k) xs 0 + 256 ^ suc k * le 1 xs (0 + suc k) ≡ le (suc (suc k)) xs 0 = sym (le_split (suc k) 1 xs 0) ∙ rw add-one in
+    rw (from_le_bytes-is k xs, ← e, one, mul_comm (256 ^ suc k))
+
+low_bytes : (k i n : ℕ) → bytes_low_first i k n ≡ bytes k (n / 256 ^ i)
+unfolding bytes
+low_bytes zero i n = refl
+low_bytes (suc k) i n = ap₂ (λ (x : ℕ) (xs : List ℕ). x ∷ xs) (low i) (low_bytes k (suc i) n ∙ ap (bytes k) high)
+  where
+    low : (i : ℕ) → byte_at i n ≡ n / 256 ^ i % 256
+    low zero = omega arith
+    low (suc i) = refl
+
+    high : n / 256 ^ suc i ≡ n / 256 ^ i / 256
+    high = rw pow-suc (sym (div-div-eq-div-mul n (256 ^ i) 256))
+
+pub to_le_bytes-is : (k n : ℕ) → bytes_low_first 0 k n ≡ bytes k n
+to_le_bytes-is k n = low_bytes k 0 n ∙ ap (bytes k) (omega arith)
+
+-- ── A part of a list, read and written whole ──
+
+-- the first k elements of what lies from place p on
+pub le_first : (k : ℕ) (s xs : List ℕ) (p : ℕ) → p + k ≤ length s → IsFirstChunk (take (length s - p) (drop p s)) xs k → le k xs 0 ≡ le k s p
+le_first k s xs p h e =
+    rw e.same (le_part k (take (length s - p) (drop p s)) 0 k 0 (omega arith) ∙ le_part k s p (length s - p) 0 (omega arith) ∙ rw add-zero)
+
+pub put_mid-sets : (s vs : List ℕ) (p n : ℕ) → p + n ≤ length s → length vs ≡ n → put_mid p (p + n - p) s vs ≡ sets s p vs
+put_mid-sets s vs p n h e =
+    let z : p + n - p ≡ n = omega arith in
+    rw (sets-eq vs s p (omega arith), z, e, append_assoc, drop-drop n p s)

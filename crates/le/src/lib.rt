@@ -1,94 +1,104 @@
-// Numbers in lent bytes, the least byte first, at a place that the caller has tested. Each width is
-// made of two halves, so that all are proved by the laws of Widths.antt.
+// Numbers in lent bytes, the least byte first, at a place that the caller has tested.
 #![tactic(auto)]
 
-ghost use Rattle.std.specs.Prelude.{◌≡◌, ◌+◌, ◌<◌, ◌≤◌, length};
+ghost use Rattle.std.specs.Prelude.{◌≡◌, refl, ℕ, ◌+◌, ◌<◌, ◌≤◌, ◌^◌, length};
 ghost use Rattle.std.proofs.lemmas.List.Edits.{sets};
 ghost use Rattle.std.specs.Int.{w32};
 ghost use Rattle.std.proofs.Common.{to_z, of_z};
+ghost use Rattle.std.proofs.lemmas.Int.{of_z-to_z};
 ghost use Rattle.le.specs.Le.{le, bytes};
 
-fn wide(x: u8) -> u16
-    ensures { (result ≡ x) × (result < 256) }
-{
-    x as u16
+/// A number that lies in N bytes.
+pub trait LittleEndian<const N: usize>: Copy {
+    // The number that has these bits, and its bits.
+    ghost number: { ℕ → Self };
+
+    ghost bits: { Self → ℕ };
+
+    fn from_bytes(stored: &[u8; N]) -> Self
+        ensures { result ≡ number (le N stored.now 0) };
+
+    fn to_bytes(self) -> [u8; N]
+        ensures { result ≡ bytes N (bits self) };
+
+    // What was read is stored as it lay.
+    ghost same_bits: { (n : ℕ) → n < 256 ^ N → bits (number n) ≡ n };
 }
 
-pub fn get_u16(s: &[u8], at: usize) -> u16
-    requires { at + 2 ≤ length s.now }
-    ensures { result ≡ le 2 s.now at }
+pub fn get<T: LittleEndian<N>, const N: usize>(s: &[u8], at: usize) -> T
+    requires { at + N ≤ length s.now }
+    ensures { result ≡ T.number (le N s.now at) }
 {
-    wide(s[at]) + 256 * wide(s[at + 1])
+    T::from_bytes(s[at..].first_chunk().unwrap())
 }
 
-pub fn get_u32(s: &[u8], at: usize) -> u32
-    requires { at + 4 ≤ length s.now }
-    ensures { result ≡ le 4 s.now at }
+pub fn put<T: LittleEndian<N>, const N: usize>(s: &mut [u8], at: usize, value: T)
+    requires { at + N ≤ length s.old }
+    ensures { s.new ≡ sets s.old at (bytes N (T.bits value)) }
 {
-    (get_u16(s, at) as u32) + 65536 * (get_u16(s, at + 2) as u32)
+    s[at..at + N].copy_from_slice(&value.to_bytes());
 }
 
-pub fn get_u64(s: &[u8], at: usize) -> u64
-    requires { at + 8 ≤ length s.now }
-    ensures { result ≡ le 8 s.now at }
-{
-    (get_u32(s, at) as u64) + 4294967296 * (get_u32(s, at + 4) as u64)
-}
+impl LittleEndian<2> for u16 {
+    ghost number = { λ n. n };
 
-pub fn get_i32(s: &[u8], at: usize) -> i32
-    requires { at + 4 ≤ length s.now }
-    ensures { result ≡ to_z w32 (le 4 s.now at) }
-{
-    signed(get_u32(s, at))
-}
+    ghost bits = { λ n. n };
 
-pub fn put_u16(s: &mut [u8], at: usize, v: u16)
-    requires { at + 2 ≤ length s.old }
-    ensures { s.new ≡ sets s.old at (bytes 2 v) }
-{
-    s[at] = (v % 256) as u8;
-    s[at + 1] = (v / 256) as u8;
-}
-
-pub fn put_u32(s: &mut [u8], at: usize, v: u32)
-    requires { at + 4 ≤ length s.old }
-    ensures { s.new ≡ sets s.old at (bytes 4 v) }
-{
-    put_u16(s, at, (v % 65536) as u16);
-    put_u16(s, at + 2, (v / 65536) as u16);
-}
-
-pub fn put_u64(s: &mut [u8], at: usize, v: u64)
-    requires { at + 8 ≤ length s.old }
-    ensures { s.new ≡ sets s.old at (bytes 8 v) }
-{
-    put_u32(s, at, (v % 4294967296) as u32);
-    put_u32(s, at + 4, (v / 4294967296) as u32);
-}
-
-pub fn put_i32(s: &mut [u8], at: usize, v: i32)
-    requires { at + 4 ≤ length s.old }
-    ensures { s.new ≡ sets s.old at (bytes 4 (of_z w32 v)) }
-{
-    put_u32(s, at, bits(v));
-}
-
-// The same 32 bits, signed.
-pub fn signed(v: u32) -> i32
-    ensures { result ≡ to_z w32 v }
-{
-    if v < 2147483648 {
-        return v as i32;
+    fn from_bytes(stored: &[u8; 2]) -> u16 {
+        u16::from_le_bytes(*stored)
     }
-    -1 - ((4294967295 - v) as i32)
+
+    fn to_bytes(self) -> [u8; 2] {
+        u16::to_le_bytes(self)
+    }
+
+    ghost same_bits = { λ n h. refl };
 }
 
-// The 32 bits of a signed number.
-pub fn bits(v: i32) -> u32
-    ensures { result ≡ of_z w32 v }
-{
-    if 0 <= v {
-        return v as u32;
+impl LittleEndian<4> for u32 {
+    ghost number = { λ n. n };
+
+    ghost bits = { λ n. n };
+
+    fn from_bytes(stored: &[u8; 4]) -> u32 {
+        u32::from_le_bytes(*stored)
     }
-    4294967295 - ((-1 - v) as u32)
+
+    fn to_bytes(self) -> [u8; 4] {
+        u32::to_le_bytes(self)
+    }
+
+    ghost same_bits = { λ n h. refl };
+}
+
+impl LittleEndian<8> for u64 {
+    ghost number = { λ n. n };
+
+    ghost bits = { λ n. n };
+
+    fn from_bytes(stored: &[u8; 8]) -> u64 {
+        u64::from_le_bytes(*stored)
+    }
+
+    fn to_bytes(self) -> [u8; 8] {
+        u64::to_le_bytes(self)
+    }
+
+    ghost same_bits = { λ n h. refl };
+}
+
+impl LittleEndian<4> for i32 {
+    ghost number = { to_z w32 };
+
+    ghost bits = { of_z w32 };
+
+    fn from_bytes(stored: &[u8; 4]) -> i32 {
+        i32::from_le_bytes(*stored)
+    }
+
+    fn to_bytes(self) -> [u8; 4] {
+        i32::to_le_bytes(self)
+    }
+
+    ghost same_bits = { of_z-to_z w32 };
 }

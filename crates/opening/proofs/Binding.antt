@@ -1,6 +1,7 @@
 -- bind
 use mathlib.Core.Path.{◌≡◌, refl, sym, ap, ap₂, ◌∙◌, subst}
 use mathlib.Core.Logic.{◌≢◌}
+use mathlib.Core.Bool.{true≢false}
 use mathlib.Core.Bool.{Bool, true, false, cond, not}
 use mathlib.Core.List.{List, [], ◌∷◌, ◌++◌}
 use Prim.Native.Nat.{ℕ, zero, suc, ◌+◌, ◌*◌, ◌≤◌, ◌<◌}
@@ -18,7 +19,9 @@ use Rattle.storage.specs.Layout.{part, name_base}
 use Rattle.storage.specs.Cells.{cell_at, state_of, store_at, cell_of}
 use Rattle.storage.specs.Rows.{Store, Row, Around, lent, row_at, rows, with_cell, with_room, Roomy}
 use Rattle.storage.specs.View.{view, show, show_in}
-use Rattle.storage.specs.Finding.{live_in, least, holds_cell}
+use Rattle.std.specs.Prelude.{Option, Some, None, is_some}
+use Rattle.storage.proofs.Finds.{lowest-some, lowest-none}
+use Rattle.storage.specs.Finding.{lowest, live_in, least, holds_cell}
 use Rattle.storage.specs.declared.Slot.{Slot}
 use Rattle.storage.specs.declared.State.{State}
 use Rattle.storage.specs.declared.State.TheVariants.{Closed, Unbound, Bound, Listening, Connected}
@@ -111,6 +114,16 @@ bind_other t h m r g Unbound a b = absurd (a refl)
 bind_other t h m r g (Bound k) a b = refl
 bind_other t h m r g (Listening q) a b = refl
 bind_other t h m r g (Connected k) a b = refl
+
+-- ── What a search for the name found ──
+
+pub found_one : (n : ℕ) (p : ℕ → Bool) (r : Option ℕ) → r ≡ lowest n p → is_some r ≡ true → least n p ≢ n
+found_one n p (Some i) e h = let z = lowest-some n p (Some i) i e refl in let b = z.1 in λ y. omega (arith, z.0)
+found_one n p None e h = absurd (true≢false (sym h))
+
+pub found_nothing : (n : ℕ) (p : ℕ → Bool) (r : Option ℕ) → r ≡ lowest n p → is_some r ≡ false → least n p ≡ n
+found_nothing n p (Some i) e h = absurd (true≢false h)
+found_nothing n p None e h = lowest-none n p None e refl
 
 -- ── Each return ──
 

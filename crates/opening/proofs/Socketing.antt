@@ -6,11 +6,13 @@ use mathlib.Core.List.{List, []}
 use Prim.Native.Nat.{ℕ, suc, ◌+◌}
 use native.Mathlib.Omega.{arith}
 use lib.IntN.{ℤ}
+use Rattle.std.specs.Prelude.{Option, Some, Result, Ok, Err}
+use Rattle.storage.specs.Finding.{lowest}
+use Rattle.storage.proofs.Finds.{lowest-some}
 use Rattle.words.specs.Integers.{equals}
 use Rattle.words.specs.Numbers.{number_of}
 use Rattle.words.specs.declared.Errno.{Errno}
 use Rattle.words.specs.declared.Errno.TheVariants.{EAFNOSUPPORT, EPROTOTYPE, EPROTONOSUPPORT}
-use Rattle.words.specs.declared.Verdict.{Verdict}
 use Rattle.words.proofs.Names.{number_some}
 use Rattle.syscall.specs.Arguments.{socket_of}
 use Rattle.rules.specs.Table as model
@@ -35,9 +37,9 @@ use Rattle.promise.proofs.Changed.{Fit, fields_unbound, accepted_done, cell_stor
 use Rattle.promise.proofs.Free.{Free, none_free, free_found}
 
 -- what socket does when its arguments are answered
-unfoldable after_arguments : Table → Verdict → Outcome → Outcome
-after_arguments t Verdict.Accepted o = o
-after_arguments t (Verdict.Refused e) o = refuse t (number_of e)
+unfoldable after_arguments : Table → Result Unit Errno → Outcome → Outcome
+after_arguments t (Ok tt) o = o
+after_arguments t (Err e) o = refuse t (number_of e)
 
 -- and then
 abbrev slot_first : Table → Outcome
@@ -50,7 +52,7 @@ arguments_first t d ty p = go (equals d 1) (equals ty 1) (equals p 0)
   where
     go : (a b c : Bool) → (let o = cond (no_slot t) (refuse t 16) (answer (enter t (free_slot t) true model.State.Unbound) (new_handle t) [] []) in
         cond (not a) (refuse t 12) (cond (not b) (refuse t 14) (cond (not c) (refuse t 15) o))
-        ≡ after_arguments t (cond (not a) (Verdict.Refused EAFNOSUPPORT) (cond (not b) (Verdict.Refused EPROTOTYPE) (cond (not c) (Verdict.Refused EPROTONOSUPPORT) Verdict.Accepted))) o)
+        ≡ after_arguments t (cond (not a) (Err EAFNOSUPPORT) (cond (not b) (Err EPROTOTYPE) (cond (not c) (Err EPROTONOSUPPORT) (Ok tt)))) o)
     go true true true = refl
     go true true false = refl
     go true false c = refl
@@ -70,26 +72,30 @@ unbound_fit : (n c g : ℕ) (r : Row) → Fit n c r (with_cell (cell_of g Unboun
 unfolding fields_well ranges_well hidden_in hidden_after room_after show_in cell_of state_of
 unbound_fit n c g r = record { fields = fields_unbound g; ranges = refl; numbers = refl; room = refl }
 
+-- a slot that was found is the least one, and not n
+pub found_free : (n : ℕ) (p : ℕ → Bool) (r : Option ℕ) (i : ℕ) → r ≡ lowest n p → r ≡ Some i → (i ≡ least n p) × (i ≢ n)
+found_free n p r i e h = let z = lowest-some n p r i e h in let b = z.1 in (z.0, λ y. omega arith)
+
 -- the arguments as they are handed on
-module _ (n c : ℕ) (s : Store) (l : Lists) (d ty p d' ty' p' : ℤ) (v : Verdict) (ev' : v ≡ socket_of d' ty' p') (ed : d' ≡ d) (et : ty' ≡ ty) (ep : p' ≡ p) (r : Answer) where
+module _ (n c : ℕ) (s : Store) (l : Lists) (d ty p d' ty' p' : ℤ) (v : Result Unit Errno) (ev' : v ≡ socket_of d' ty' p') (ed : d' ≡ d) (et : ty' ≡ ty) (ep : p' ≡ p) (r : Answer) where
   ev : v ≡ socket_of d ty p
   ev = rw (sym ed, sym et, sym ep) ev'
 
-  pub socket_refused : (x : Errno) → v ≡ Verdict.Refused x → r ≡ refused_with (number_of x) → Done (run (view n c s) (Call.Socket d ty p)) n c s s l l r
+  pub socket_refused : (x : Errno) → v ≡ Err x → r ≡ refused_with (number_of x) → Done (run (view n c s) (Call.Socket d ty p)) n c s s l l r
   unfolding after_arguments
   socket_refused x e er =
-      refused_done _ (number_of x) n c s l r (arguments_first (view n c s) d ty p ∙ ap (λ (y : Verdict). after_arguments (view n c s) y (slot_first (view n c s))) (sym ev ∙ e)) (number_some x) er
+      refused_done _ (number_of x) n c s l r (arguments_first (view n c s) d ty p ∙ ap (λ (y : Result Unit Errno). after_arguments (view n c s) y (slot_first (view n c s))) (sym ev ∙ e)) (number_some x) er
 
-  module _ (i : ℕ) (ok : v ≡ Verdict.Accepted) (ei : i ≡ least n (λ j. free_cell (cell_at s.words j))) where
+  module _ (i : ℕ) (ok : v ≡ (Ok tt)) (ei : i ≡ least n (λ j. free_cell (cell_at s.words j))) where
     arguments_passed : run (view n c s) (Call.Socket d ty p) ≡ slot_first (view n c s)
     unfolding after_arguments
-    arguments_passed = arguments_first (view n c s) d ty p ∙ ap (λ (x : Verdict). after_arguments (view n c s) x (slot_first (view n c s))) (sym ev ∙ ok)
+    arguments_passed = arguments_first (view n c s) d ty p ∙ ap (λ (x : Result Unit Errno). after_arguments (view n c s) x (slot_first (view n c s))) (sym ev ∙ ok)
 
     pub socket_full : i ≡ n → r ≡ refused_with 16 → Done (run (view n c s) (Call.Socket d ty p)) n c s s l l r
     unfolding refuse_if
     socket_full z er = refused_done _ 16 n c s l r (arguments_passed ∙ rw (none_free n c s i ei z)) (λ x. omega arith) er
 
-  pub socket_made : (k : Known n c s) (i g : ℕ) (w' : List ℕ) (h : ℕ) → v ≡ Verdict.Accepted → i ≡ least n (λ j. free_cell (cell_at s.words j)) → i ≢ n
+  pub socket_made : (k : Known n c s) (i g : ℕ) (w' : List ℕ) (h : ℕ) → v ≡ (Ok tt) → i ≡ least n (λ j. free_cell (cell_at s.words j)) → i ≢ n
       → g ≡ (cell_at s.words i).generation → w' ≡ store_at s.words i (cell_of (g + 1) Unbound) → h ≡ handle (g + 1) i → r ≡ accepted_with h 0
       → Done (run (view n c s) (Call.Socket d ty p)) n c s (lent w' s.bytes s.tokens) l l r
   unfolding row_at

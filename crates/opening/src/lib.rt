@@ -5,11 +5,12 @@ ghost use Rattle.std.specs.Prelude.{length};
 ghost use Rattle.rules.specs.Outcome.{Call};
 ghost use Rattle.storage.specs.Rows.{lent};
 ghost use Rattle.table.specs.Admission.{Admitted};
+ghost use Rattle.promise.specs.Answers.{told};
 ghost use Rattle.promise.specs.Promise.{lists, Runs};
 
-use promise::Answer;
+use promise::Accepted;
 use storage::{Slot, State, handles, names};
-use words::{Errno, Handle, Verdict};
+use words::{Errno, Handle};
 
 pub fn socket_admitted(
     words: &mut [u64],
@@ -22,23 +23,18 @@ pub fn socket_admitted(
     domain: i32,
     ty: i32,
     protocol: i32,
-) -> Answer
+) -> Result<Accepted, Errno>
     requires { Admitted n c (lent words.old bytes.now tokens.now) (length wakes.now) (length releases.now) }
-    ensures { Runs (Call.Socket domain ty protocol) n c (lent words.old bytes.now tokens.now) (lent words.new bytes.now tokens.now) (lists wakes.now releases.now) (lists wakes.now releases.now) result }
+    ensures { Runs (Call.Socket domain ty protocol) n c (lent words.old bytes.now tokens.now) (lent words.new bytes.now tokens.now) (lists wakes.now releases.now) (lists wakes.now releases.now) (told result) }
 {
-    match syscall::socket_refusal(domain, ty, protocol) {
-        Verdict::Refused(no) => promise::refused(no),
-        Verdict::Accepted => {
-            let i = handles::lowest_free(words, n);
-            if i == n {
-                return promise::refused(Errno::ENFILE);
-            }
-            let generation = storage::load(words, i).generation + 1;
-            let state = State::Unbound;
-            storage::store(words, i, Slot { generation, state });
-            promise::accepted(handles::handle(generation, i).0, 0)
-        }
-    }
+    syscall::socket_refusal(domain, ty, protocol)?;
+    let Some(i) = handles::lowest_free(words, n) else {
+        return Err(Errno::ENFILE);
+    };
+    let generation = storage::load(words, i).generation + 1;
+    let state = State::Unbound;
+    storage::store(words, i, Slot { generation, state });
+    Ok(Accepted::new(handles::handle(generation, i).0, 0))
 }
 
 pub fn bind_admitted(
@@ -51,37 +47,29 @@ pub fn bind_admitted(
     c: usize,
     h: Handle,
     name: &[u8],
-) -> Answer
+) -> Result<Accepted, Errno>
     requires { Admitted n c (lent words.old bytes.old tokens.now) (length wakes.now) (length releases.now) }
-    ensures { Runs (Call.Bind h.0 name.now) n c (lent words.old bytes.old tokens.now) (lent words.new bytes.new tokens.now) (lists wakes.now releases.now) (lists wakes.now releases.now) result }
+    ensures { Runs (Call.Bind h.0 name.now) n c (lent words.old bytes.old tokens.now) (lent words.new bytes.new tokens.now) (lists wakes.now releases.now) (lists wakes.now releases.now) (told result) }
 {
     if !handles::is_live(words, n, h) {
-        return promise::refused(Errno::EBADF);
+        return Err(Errno::EBADF);
     }
-    if name.len() == 0 {
-        return promise::refused(Errno::EINVAL);
+    if name.is_empty() {
+        return Err(Errno::EINVAL);
     }
     if 255 < name.len() {
-        return promise::refused(Errno::ENAMETOOLONG);
+        return Err(Errno::ENAMETOOLONG);
     }
     let i = handles::slot_of(h);
     let slot = storage::load(words, i);
-    let state = slot.state;
-    let State::Unbound = state else {
-        return promise::refused(Errno::EINVAL);
+    let State::Unbound = slot.state else {
+        return Err(Errno::EINVAL);
     };
-    if names::find(words, bytes, n, c, n, name) != n {
-        return promise::refused(Errno::EADDRINUSE);
+    if names::find(words, bytes, n, c, n, name).is_some() {
+        return Err(Errno::EADDRINUSE);
     }
     names::put_name(bytes, n, c, i, name);
     let state = State::Bound(name.len());
-    storage::store(
-        words,
-        i,
-        Slot {
-            generation: slot.generation,
-            state,
-        },
-    );
-    promise::accepted(0, 0)
+    storage::store(words, i, Slot { state, ..slot });
+    Ok(Accepted::new(0, 0))
 }

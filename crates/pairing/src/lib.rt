@@ -8,12 +8,13 @@ ghost use Rattle.rules.specs.Outcome.{Call};
 ghost use Rattle.storage.specs.Cells.{cell_at};
 ghost use Rattle.storage.specs.Rows.{lent};
 ghost use Rattle.table.specs.Admission.{Admitted};
+ghost use Rattle.promise.specs.Answers.{told};
 ghost use Rattle.promise.specs.Promise.{lists, Runs};
 ghost use Rattle.pairing.specs.Pairs.{new_end, pair_in, queue_up, joined};
 ghost use Rattle.pairing.specs.Callers.{Caller};
 
 use inbox::Inbox;
-use promise::Answer;
+use promise::Accepted;
 use storage::{Connection, Listener, Slot, State, handles, names, queues};
 use words::{Errno, Handle};
 
@@ -27,29 +28,27 @@ pub fn connect_admitted(
     c: usize,
     h: Handle,
     name: &[u8],
-) -> Answer
+) -> Result<Accepted, Errno>
     requires { Admitted n c (lent words.old bytes.now tokens.now) (length wakes.old) (length releases.now) }
-    ensures { Runs (Call.Connect h.0 name.now) n c (lent words.old bytes.now tokens.now) (lent words.new bytes.now tokens.now) (lists wakes.old releases.now) (lists wakes.new releases.now) result }
+    ensures { Runs (Call.Connect h.0 name.now) n c (lent words.old bytes.now tokens.now) (lent words.new bytes.now tokens.now) (lists wakes.old releases.now) (lists wakes.new releases.now) (told result) }
 {
     if !handles::is_live(words, n, h) {
-        return promise::refused(Errno::EBADF);
+        return Err(Errno::EBADF);
     }
-    if name.len() == 0 {
-        return promise::refused(Errno::EINVAL);
+    if name.is_empty() {
+        return Err(Errno::EINVAL);
     }
     if 255 < name.len() {
-        return promise::refused(Errno::ENAMETOOLONG);
+        return Err(Errno::ENAMETOOLONG);
     }
     let i = handles::slot_of(h);
-    let slot = storage::load(words, i);
-    let state = slot.state;
-    match state {
+    match storage::load(words, i).state {
         // no live socket is closed
-        State::Closed => promise::refused(Errno::DAMAGED),
+        State::Closed => Err(Errno::DAMAGED),
         State::Unbound => reach(words, bytes, tokens, wakes, releases, n, c, h, name),
-        State::Bound(_) => promise::refused(Errno::EINVAL),
-        State::Listening(_) => promise::refused(Errno::EOPNOTSUPP),
-        State::Connected(_) => promise::refused(Errno::EISCONN),
+        State::Bound(_) => Err(Errno::EINVAL),
+        State::Listening(_) => Err(Errno::EOPNOTSUPP),
+        State::Connected(_) => Err(Errno::EISCONN),
     }
 }
 
@@ -64,30 +63,27 @@ fn reach(
     c: usize,
     h: Handle,
     name: &[u8],
-) -> Answer
+) -> Result<Accepted, Errno>
     requires admitted { Admitted n c (lent words.old bytes.now tokens.now) (length wakes.old) (length releases.now) }
     requires caller { Caller n words.old h.0 name.now }
-    ensures { Runs (Call.Connect h.0 name.now) n c (lent words.old bytes.now tokens.now) (lent words.new bytes.now tokens.now) (lists wakes.old releases.now) (lists wakes.new releases.now) result }
+    ensures { Runs (Call.Connect h.0 name.now) n c (lent words.old bytes.now tokens.now) (lent words.new bytes.now tokens.now) (lists wakes.old releases.now) (lists wakes.new releases.now) (told result) }
 {
-    let l = names::find(words, bytes, n, c, n, name);
-    if n <= l {
-        return promise::refused(Errno::ECONNREFUSED);
-    }
+    let Some(l) = names::find(words, bytes, n, c, n, name) else {
+        return Err(Errno::ECONNREFUSED);
+    };
     let found = storage::load(words, l);
-    let state = found.state;
-    let State::Listening(listener) = state else {
-        return promise::refused(Errno::ECONNREFUSED);
+    let State::Listening(listener) = found.state else {
+        return Err(Errno::ECONNREFUSED);
     };
     if listener.backlog <= listener.pending as u64 {
-        return promise::refused(Errno::EAGAIN);
+        return Err(Errno::EAGAIN);
     }
-    let j = handles::lowest_free(words, n);
-    if j == n {
-        return promise::refused(Errno::ENFILE);
-    }
+    let Some(j) = handles::lowest_free(words, n) else {
+        return Err(Errno::ENFILE);
+    };
     join(words, n, h, l, found.generation, listener, j);
     wake(wakes, handles::handle(found.generation, l), h);
-    promise::accepted(0, 2)
+    Ok(Accepted::new(0, 2))
 }
 
 // The wake list of two notifications.
@@ -135,24 +131,11 @@ fn pair(
     ensures { (result.0 ≡ handle generation j) × (words.new ≡ pair_in words.old h.0 own j generation l at) }
 {
     let server = handles::handle(generation, j);
-    let waiting = State::Connected(new_end(h, l + 1, at));
-    storage::store(
-        words,
-        j,
-        Slot {
-            generation,
-            state: waiting,
-        },
-    );
+    let state = State::Connected(new_end(h, l + 1, at));
+    storage::store(words, j, Slot { generation, state });
     let state = State::Connected(new_end(server, 0, 0));
-    storage::store(
-        words,
-        handles::slot_of(h),
-        Slot {
-            generation: own,
-            state,
-        },
-    );
+    let generation = own;
+    storage::store(words, handles::slot_of(h), Slot { generation, state });
     server
 }
 
@@ -185,10 +168,8 @@ fn queue_up(
 {
     queues::put_entry(words, n, l, at, server);
     let state = State::Listening(Listener {
-        name: listener.name,
-        backlog: listener.backlog,
-        head: listener.head,
         pending: listener.pending + 1,
+        ..listener
     });
     storage::store(words, l, Slot { generation, state });
 }

@@ -1,11 +1,17 @@
--- The answers of `refused` and `accepted`; and equal answers.
+-- A refusal that is passed on; and equal answers.
 use mathlib.Core.Path.{◌≡◌, ap, ◌∙◌}
 use Prim.Native.Nat.{ℕ}
-use Rattle.promise.specs.Answers.{refused_with}
+use Rattle.std.specs.Prelude.{Result, Ok, Err, IsErrAnd}
+use Rattle.words.specs.Numbers.{number_of}
+use Rattle.words.specs.declared.Errno.{Errno}
+use Rattle.promise.specs.Answers.{refused_with, told}
+use Rattle.promise.specs.declared.Accepted.{Accepted}
 use Rattle.promise.specs.declared.Answer.{Answer}
 
-pub refused_is : (e x : ℕ) → x ≡ e → ◌≡◌ {A = Answer} (record { refusal = x; flags = 0; value = 0; items = 0; wakes = 0; releases = 0 }) (refused_with e)
-refused_is e x h = rw h
+-- what a `?` hands on tells the refusal that it was given
+pub passed_on : (r : Result Accepted Errno) (e : Errno) → IsErrAnd r (λ y. y ≡ e) → told r ≡ refused_with (number_of e)
+passed_on (Ok x) e h = absurd h
+passed_on (Err y) e h = ap (λ (x : Errno). refused_with (number_of x)) h
 
 -- two answers with the same fields
 pub same_answer : (r r' : Answer) → r.refusal ≡ r'.refusal → r.flags ≡ r'.flags → r.value ≡ r'.value → r.items ≡ r'.items → r.wakes ≡ r'.wakes → r.releases ≡ r'.releases → r ≡ r'

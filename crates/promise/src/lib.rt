@@ -1,16 +1,25 @@
 // What a table call answers. The promise that every call makes stands in specs/.
 #![tactic(auto)]
 
-ghost use Rattle.std.specs.Prelude.{◌≡◌};
-ghost use Rattle.words.specs.Numbers.{number_of};
-ghost use Rattle.promise.specs.Answers.{refused_with, accepted_with};
+ghost use Rattle.std.specs.Prelude.{◌≡◌, Ok};
+ghost use Rattle.promise.specs.Answers.{told, accepted_with, released_with};
 
 use words::Errno;
 
-// 01's number (0: accepted), recvmsg's flags, the value, and how many entries are filled of the
+// What an accepted call answers: recvmsg's flags, the value, and how many entries are filled of the
 // item list, the wake list and the release list.
+#[derive(Clone, Copy, Debug, PartialEq, Eq)]
+pub struct Accepted {
+    pub flags: u32,
+    pub value: u64,
+    pub items: u64,
+    pub wakes: u64,
+    pub releases: u64,
+}
+
+// The same for C, with 01's number (0: accepted); of a refusal all but the number is 0.
 #[repr(C)]
-#[derive(Clone, Copy)]
+#[derive(Clone, Copy, Debug, PartialEq, Eq)]
 pub struct Answer {
     pub refusal: u32,
     pub flags: u32,
@@ -20,28 +29,54 @@ pub struct Answer {
     pub releases: u64,
 }
 
-pub fn refused(no: Errno) -> Answer
-    ensures { result ≡ refused_with (number_of no) }
-{
-    Answer {
-        refusal: no.number(),
-        flags: 0,
-        value: 0,
-        items: 0,
-        wakes: 0,
-        releases: 0,
+impl Accepted {
+    // Nothing is handed over or released.
+    pub fn new(value: u64, wakes: usize) -> Accepted
+        ensures { told (Ok result) ≡ accepted_with value wakes }
+    {
+        Accepted {
+            flags: 0,
+            value,
+            items: 0,
+            wakes: wakes as u64,
+            releases: 0,
+        }
+    }
+
+    // Of a close and of a shutdown: items are released.
+    pub fn releasing(wakes: usize, releases: usize) -> Accepted
+        ensures { told (Ok result) ≡ released_with wakes releases }
+    {
+        Accepted {
+            releases: releases as u64,
+            ..Accepted::new(0, wakes)
+        }
     }
 }
 
-pub fn accepted(value: u64, wakes: usize) -> Answer
-    ensures { result ≡ accepted_with value wakes }
-{
-    Answer {
-        refusal: 0,
-        flags: 0,
-        value,
-        items: 0,
-        wakes: wakes as u64,
-        releases: 0,
+impl From<Result<Accepted, Errno>> for Answer {
+    ghost from_gives = { λ answer result. result ≡ told answer };
+
+    fn from(answer: Result<Accepted, Errno>) -> Answer
+        ensures { result ≡ told answer }
+    {
+        match answer {
+            Ok(accepted) => Answer {
+                refusal: 0,
+                flags: accepted.flags,
+                value: accepted.value,
+                items: accepted.items,
+                wakes: accepted.wakes,
+                releases: accepted.releases,
+            },
+            Err(no) => Answer {
+                refusal: no.number(),
+                flags: 0,
+                value: 0,
+                items: 0,
+                wakes: 0,
+                releases: 0,
+            },
+        }
     }
 }

@@ -5,37 +5,30 @@ ghost use Rattle.std.specs.Prelude.{◌≡◌, ◌+◌, ◌*◌, ◌≤◌, leng
 ghost use Rattle.rules.specs.Outcome.{Call};
 ghost use Rattle.storage.specs.Rows.{lent};
 ghost use Rattle.table.specs.Admission.{Admitted};
+ghost use Rattle.promise.specs.Answers.{told};
 ghost use Rattle.promise.specs.Promise.{lists, Runs};
 ghost use Rattle.readying.specs.Parts.{readable_of, room_in, writable_in, ready_in};
 
-use promise::Answer;
+use promise::Accepted;
 use storage::{Connection, State, handles};
 use words::{Errno, Handle};
 
 // "readable if bytes are queued or the inbox is closed"
+#[tactic(auto, unfolding(crate::specs::Parts::readable_of))]
 fn readable(connection: Connection) -> u64
     ensures { result ≡ readable_of connection }
 {
-    let inbox = connection.inbox;
-    if inbox.queued() != 0 {
+    if connection.inbox.queued() != 0 {
         return 1;
     }
-    if connection.inbox_closed { 1 } else { 0 }
+    connection.inbox_closed as u64
 }
 
+#[tactic(auto, unfolding(crate::specs::Parts::room_in))]
 fn has_room(state: State, c: usize) -> bool
     ensures { result ≡ room_in c state }
 {
-    match state {
-        State::Closed => false,
-        State::Unbound => false,
-        State::Bound(_) => false,
-        State::Listening(_) => false,
-        State::Connected(connection) => {
-            let inbox = connection.inbox;
-            inbox.queued() < c
-        }
-    }
+    matches!(state, State::Connected(connection) if connection.inbox.queued() < c)
 }
 
 // "writable if the outbox is open and the peer inbox has room": the peer is in slot `j`
@@ -46,9 +39,11 @@ fn writable(words: &[u64], c: usize, j: usize, connection: Connection) -> u64
     if connection.outbox_closed {
         return 0;
     }
-    let slot = storage::load(words, j);
-    let state = slot.state;
-    if has_room(state, c) { 2 } else { 0 }
+    if has_room(storage::load(words, j).state, c) {
+        2
+    } else {
+        0
+    }
 }
 
 fn ready(words: &[u64], n: usize, c: usize, connection: Connection) -> u64
@@ -71,26 +66,25 @@ pub fn readiness_admitted(
     n: usize,
     c: usize,
     h: Handle,
-) -> Answer
+) -> Result<Accepted, Errno>
     requires { Admitted n c (lent words.now bytes.now tokens.now) (length wakes.now) (length releases.now) }
-    ensures { Runs (Call.Readiness h.0) n c (lent words.now bytes.now tokens.now) (lent words.now bytes.now tokens.now) (lists wakes.now releases.now) (lists wakes.now releases.now) result }
+    ensures { Runs (Call.Readiness h.0) n c (lent words.now bytes.now tokens.now) (lent words.now bytes.now tokens.now) (lists wakes.now releases.now) (lists wakes.now releases.now) (told result) }
 {
     if !handles::is_live(words, n, h) {
-        return promise::refused(Errno::EBADF);
+        return Err(Errno::EBADF);
     }
     let slot = storage::load(words, handles::slot_of(h));
-    let state = slot.state;
-    match state {
+    match slot.state {
         // no live socket is closed
-        State::Closed => promise::refused(Errno::DAMAGED),
-        State::Unbound => promise::accepted(0, 0),
-        State::Bound(_) => promise::accepted(0, 0),
+        State::Closed => Err(Errno::DAMAGED),
+        State::Unbound => Ok(Accepted::new(0, 0)),
+        State::Bound(_) => Ok(Accepted::new(0, 0)),
         State::Listening(listener) => {
             if listener.pending == 0 {
-                return promise::accepted(0, 0);
+                return Ok(Accepted::new(0, 0));
             }
-            promise::accepted(1, 0)
+            Ok(Accepted::new(1, 0))
         }
-        State::Connected(connection) => promise::accepted(ready(words, n, c, connection), 0),
+        State::Connected(connection) => Ok(Accepted::new(ready(words, n, c, connection), 0)),
     }
 }

@@ -1,7 +1,8 @@
 -- The laws of `queued`.
 use mathlib.Core.Path.{◌≡◌, refl, sym, ap, ◌∙◌}
 use mathlib.Core.Logic.{◌≢◌}
-use mathlib.Core.List.{List, ◌++◌}
+use native.Mathlib.Nat.{not-suc-le-zero}
+use mathlib.Core.List.{List, [], ◌∷◌, ◌++◌}
 use Prim.Native.Nat.{ℕ, ◌+◌, ◌-◌, ◌<◌, ◌≤◌}
 use native.Mathlib.Decide.{dec_lt, ℕ_discrete as dec_eq}
 use native.Mathlib.Omega.{arith}
@@ -47,79 +48,89 @@ placed c k h =
     (λ lo. (k, record { low = λ _. refl; high = λ up. omega arith }))
     (λ up. (k - c, record { low = λ lo. omega arith; high = λ _. omega arith }))
 
-module _ (r : List ℕ) (h : ℕ) (hh : h < length r) where
+-- an element of a list that has one
+pub some_of : {A : Type 0} (r : List A) → 0 < length r → A
+some_of [] h = absurd (not-suc-le-zero h)
+some_of (x ∷ r) h = x
+
+module _ {A : Type 0} (r : List A) (h : ℕ) (hh : h < length r) where
   -- it has as many elements as were asked for
   pub queued-length : (n : ℕ) → n ≤ length r → length (queued r h n) ≡ n
   unfolding queued
   queued-length n hn = length-take-le n (drop h r ++ r) (simp (length-append, length-drop) (omega arith))
 
   -- what stands at i stands in the ring at the place of h + i
-  pub queued_at : (n i p : ℕ) → i < n → n ≤ length r → Place (length r) (h + i) p → get_or (queued r h n) i 0 ≡ get_or r p 0
+  pub get_or-queued : (n i p : ℕ) (d : A) → i < n → n ≤ length r → Place (length r) (h + i) p → get_or (queued r h n) i d ≡ get_or r p d
   unfolding queued
-  queued_at n i p hi hn pl =
-      get_or-take n (drop h r ++ r) i 0 hi
+  get_or-queued n i p d hi hn pl =
+      get_or-take n (drop h r ++ r) i d hi
       ∙ by_order (h + i) (length r)
-      (λ lo. get_or-append (drop h r) r 0 i (simp length-drop (omega arith)) ∙ get_or-drop h r i 0 ∙ ap (λ (k : ℕ). get_or r k 0) (sym (pl.low lo)))
+      (λ lo. get_or-append (drop h r) r d i (simp length-drop (omega arith)) ∙ get_or-drop h r i d ∙ ap (λ (k : ℕ). get_or r k d) (sym (pl.low lo)))
       (λ up.
       let e : i ≡ length (drop h r) + p = simp length-drop (omega (arith, pl.high up)) in
-      ap (λ (k : ℕ). get_or (drop h r ++ r) k 0) e ∙ get_or-append-add (drop h r) r p 0)
+      ap (λ (k : ℕ). get_or (drop h r ++ r) k d) e ∙ get_or-append-add (drop h r) r p d)
 
   -- the first k of n
   pub queued-take : (k n : ℕ) → k ≤ n → take k (queued r h n) ≡ queued r h k
   unfolding queued
   queued-take k n hk = take-take k n (drop h r ++ r) hk
 
+-- the same in a ring of numbers
+pub queued_at : (r : List ℕ) (h : ℕ) → h < length r → (n i p : ℕ) → i < n → n ≤ length r → Place (length r) (h + i) p → get_or (queued r h n) i 0 ≡ get_or r p 0
+queued_at r h hh n i p = get_or-queued r h hh n i p 0
+
 -- a store in the ring is a store in what is read of it
-module _ (r : List ℕ) (h i p v : ℕ) (hh : h < length r) (hi : i < length r) (pl : Place (length r) (h + i) p) where
+module _ {A : Type 0} (r : List A) (h i p : ℕ) (v : A) (hh : h < length r) (hi : i < length r) (pl : Place (length r) (h + i) p) where
   set-length : length (set r p v) ≡ length r
   set-length = length-set r p v
 
-  at_other : (j : ℕ) → j < length r → j ≢ i → get_or (queued (set r p v) h (length r)) j 0 ≡ get_or (queued r h (length r)) j 0
+  at_other : (j : ℕ) → j < length r → j ≢ i → get_or (queued (set r p v) h (length r)) j v ≡ get_or (queued r h (length r)) j v
   at_other j hj ne =
       let q : (q : ℕ) × Place (length r) (h + j) q = placed (length r) (h + j) (omega arith) in
-      queued_at (set r p v) h (omega (arith, set-length)) (length r) j q.0 hj (omega (arith, set-length)) (rw set-length q.1)
-      ∙ get_or-set_other r p q.0 v 0
+      get_or-queued (set r p v) h (omega (arith, set-length)) (length r) j q.0 v hj (omega (arith, set-length)) (rw set-length q.1)
+      ∙ get_or-set_other r p q.0 v v
       (by_order j i
       (λ lo. place_apart q.1 pl (omega arith) (omega arith))
       (λ up e. place_apart pl q.1 (omega arith) (omega arith) (sym e)))
-      ∙ sym (queued_at r h hh (length r) j q.0 hj (omega arith) q.1)
+      ∙ sym (get_or-queued r h hh (length r) j q.0 v hj (omega arith) q.1)
 
-  at_same : get_or (queued (set r p v) h (length r)) i 0 ≡ v
+  at_same : get_or (queued (set r p v) h (length r)) i v ≡ v
   at_same =
-      queued_at (set r p v) h (omega (arith, set-length)) (length r) i p hi (omega (arith, set-length)) (rw set-length pl)
-      ∙ get_or-set_same r p v 0 (place_in pl (omega arith))
+      get_or-queued (set r p v) h (omega (arith, set-length)) (length r) i p v hi (omega (arith, set-length)) (rw set-length pl)
+      ∙ get_or-set_same r p v v (place_in pl (omega arith))
 
   pub whole_set : queued (set r p v) h (length r) ≡ set (whole r h) i v
   whole_set =
       let l : length (queued (set r p v) h (length r)) ≡ length r = queued-length (set r p v) h (omega (arith, set-length)) (length r) (omega (arith, set-length)) in
       let m : length (whole r h) ≡ length r = queued-length r h hh (length r) (omega arith) in
-      ext_get_or 0 (queued (set r p v) h (length r)) (set (whole r h) i v) (l ∙ sym (length-set (whole r h) i v ∙ m))
+      ext_get_or v (queued (set r p v) h (length r)) (set (whole r h) i v) (l ∙ sym (length-set (whole r h) i v ∙ m))
       (λ j hj.
       elim (dec_eq j i) [
-        | yes e ↦ ap (λ (x : ℕ). get_or (queued (set r p v) h (length r)) x 0) e ∙ at_same ∙ sym (ap (λ (x : ℕ). get_or (set (whole r h) i v) x 0) e ∙ get_or-set_same (whole r h) i v 0 (omega (arith, m)))
-        | no ne ↦ at_other j (omega (arith, l)) ne ∙ sym (get_or-set_other (whole r h) i j v 0 ne)
+        | yes e ↦ ap (λ (x : ℕ). get_or (queued (set r p v) h (length r)) x v) e ∙ at_same ∙ sym (ap (λ (x : ℕ). get_or (set (whole r h) i v) x v) e ∙ get_or-set_same (whole r h) i v v (omega (arith, m)))
+        | no ne ↦ at_other j (omega (arith, l)) ne ∙ sym (get_or-set_other (whole r h) i j v v ne)
       ])
 
 -- without the first k, n start k later
-pub queued-drop : (r : List ℕ) (h k n p : ℕ) → h < length r → k ≤ n → n ≤ length r → Place (length r) (h + k) p → drop k (queued r h n) ≡ queued r p (n - k)
-queued-drop r h k n p hh hk hn pl =
+pub queued-drop : {A : Type 0} (r : List A) (h k n p : ℕ) → h < length r → k ≤ n → n ≤ length r → Place (length r) (h + k) p → drop k (queued r h n) ≡ queued r p (n - k)
+queued-drop {A} r h k n p hh hk hn pl =
     let l : length (queued r h n) ≡ n = queued-length r h hh n hn in
     let hp : p < length r = place_in pl (omega arith) in
-    ext_get_or 0 (drop k (queued r h n)) (queued r p (n - k))
+    let d : A = some_of r (omega arith) in
+    ext_get_or d (drop k (queued r h n)) (queued r p (n - k))
     (length-drop k (queued r h n) ∙ omega (arith, queued-length r p hp (n - k) (omega arith)))
     (λ i hi.
     let li : i < n - k = omega (arith, length-drop k (queued r h n)) in
     let q : (q : ℕ) × Place (length r) (h + (k + i)) q = placed (length r) (h + (k + i)) (omega arith) in
-    get_or-drop k (queued r h n) i 0
-    ∙ queued_at r h hh n (k + i) q.0 (omega arith) hn q.1
-    ∙ sym (queued_at r p hp (n - k) i q.0 li (omega arith) (place_further (length r) h k i hh (omega arith) pl q.1)))
+    get_or-drop k (queued r h n) i d
+    ∙ get_or-queued r h hh n (k + i) q.0 d (omega arith) hn q.1
+    ∙ sym (get_or-queued r p hp (n - k) i q.0 d li (omega arith) (place_further (length r) h k i hh (omega arith) pl q.1)))
 
 -- what is queued in a ring of c into which k were copied behind n
-pub pasted : (r r' s : List ℕ) (h n k : ℕ) → length r' ≡ length r → h < length r → n + k ≤ length r → k ≤ length s
+pub pasted : {A : Type 0} (r r' s : List A) (h n k : ℕ) → length r' ≡ length r → h < length r → n + k ≤ length r → k ≤ length s
     → whole r' h ≡ paste (whole r h) n s k
     → queued r' h (n + k) ≡ queued r h n ++ take k s
-pasted r r' s h n k l hh hn hs e =
+pasted {A} r r' s h n k l hh hn hs e =
     sym (queued-take r' h (omega arith) (n + k) (length r') (omega arith))
     ∙ ap (take (n + k)) e
     ∙ take-paste (whole r h) n s k (omega (arith, queued-length r h hh (length r) (omega arith))) hs
-    ∙ ap (λ (x : List ℕ). x ++ take k s) (queued-take r h hh n (length r) (omega arith))
+    ∙ ap (λ (x : List A). x ++ take k s) (queued-take r h hh n (length r) (omega arith))

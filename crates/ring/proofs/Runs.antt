@@ -6,50 +6,62 @@ use native.Mathlib.Omega.{arith}
 use lib.ListN.{length, take, drop, get_or, length-drop, get_or-append}
 use lib.Seq.{paste, length-paste, length_paste_head, length-take-le, ext_get_or, get_or-take, get_or-drop, get_or-append-add}
 use Rattle.ring.specs.Ring.{whole}
-use Rattle.ring.proofs.Queued.{Place, by_order, placed, queued-length, queued_at}
+use Rattle.ring.proofs.Queued.{Place, by_order, placed, some_of, queued-length, get_or-queued}
 
 -- what stands at j after a copy
-module _ (d : List ℕ) (at : ℕ) (s : List ℕ) (n : ℕ) (hd : at + n ≤ length d) (hs : n ≤ length s) (j : ℕ) where
+module _ {A : Type 0} (d : List A) (at : ℕ) (s : List A) (n : ℕ) (hd : at + n ≤ length d) (hs : n ≤ length s) (j : ℕ) (z : A) where
   lf : length (take at d) ≡ at
   lf = length-take-le at d (omega arith)
 
   lh : length (take at d ++ take n s) ≡ at + n
   lh = length_paste_head d at s n (omega arith) hs
 
-  pub paste-before : j < at → get_or (paste d at s n) j 0 ≡ get_or d j 0
-  paste-before h =
-      get_or-append (take at d ++ take n s) (drop (at + n) d) 0 j (omega (arith, lh))
-      ∙ get_or-append (take at d) (take n s) 0 j (omega (arith, lf))
-      ∙ get_or-take at d j 0 h
+  get_or-paste_before : j < at → get_or (paste d at s n) j z ≡ get_or d j z
+  get_or-paste_before h =
+      get_or-append (take at d ++ take n s) (drop (at + n) d) z j (omega (arith, lh))
+      ∙ get_or-append (take at d) (take n s) z j (omega (arith, lf))
+      ∙ get_or-take at d j z h
 
-  pub paste-in : (i : ℕ) → j ≡ at + i → i < n → get_or (paste d at s n) j 0 ≡ get_or s i 0
-  paste-in i e h =
-      get_or-append (take at d ++ take n s) (drop (at + n) d) 0 j (omega (arith, lh))
-      ∙ ap (get_or-at' (take at d ++ take n s)) (e ∙ ap (λ (x : ℕ). x + i) (sym lf))
-      ∙ get_or-append-add (take at d) (take n s) i 0
-      ∙ get_or-take n s i 0 h
-    where
-      get_or-at' : List ℕ → ℕ → ℕ
-      get_or-at' l x = get_or l x 0
+  get_or-paste_in : (i : ℕ) → j ≡ at + i → i < n → get_or (paste d at s n) j z ≡ get_or s i z
+  get_or-paste_in i e h =
+      get_or-append (take at d ++ take n s) (drop (at + n) d) z j (omega (arith, lh))
+      ∙ ap (λ (x : ℕ). get_or (take at d ++ take n s) x z) (e ∙ ap (λ (x : ℕ). x + i) (sym lf))
+      ∙ get_or-append-add (take at d) (take n s) i z
+      ∙ get_or-take n s i z h
 
-  pub paste-behind : at + n ≤ j → get_or (paste d at s n) j 0 ≡ get_or d j 0
-  paste-behind h =
+  get_or-paste_behind : at + n ≤ j → get_or (paste d at s n) j z ≡ get_or d j z
+  get_or-paste_behind h =
       let e : j ≡ length (take at d ++ take n s) + (j - (at + n)) = omega (arith, lh) in
       let f : at + n + (j - (at + n)) ≡ j = omega arith in
-      ap (λ (x : ℕ). get_or (paste d at s n) x 0) e
-      ∙ get_or-append-add (take at d ++ take n s) (drop (at + n) d) (j - (at + n)) 0
-      ∙ get_or-drop (at + n) d (j - (at + n)) 0
-      ∙ ap (λ (x : ℕ). get_or d x 0) f
+      ap (λ (x : ℕ). get_or (paste d at s n) x z) e
+      ∙ get_or-append-add (take at d ++ take n s) (drop (at + n) d) (j - (at + n)) z
+      ∙ get_or-drop (at + n) d (j - (at + n)) z
+      ∙ ap (λ (x : ℕ). get_or d x z) f
+
+-- the same in numbers
+module _ (d : List ℕ) (at : ℕ) (s : List ℕ) (n : ℕ) (hd : at + n ≤ length d) (hs : n ≤ length s) (j : ℕ) where
+  pub paste-before : j < at → get_or (paste d at s n) j 0 ≡ get_or d j 0
+  paste-before = get_or-paste_before d at s n hd hs j 0
+
+  pub paste-in : (i : ℕ) → j ≡ at + i → i < n → get_or (paste d at s n) j 0 ≡ get_or s i 0
+  paste-in = get_or-paste_in d at s n hd hs j 0
+
+  pub paste-behind : at + n ≤ j → get_or (paste d at s n) j 0 ≡ get_or d j 0
+  paste-behind = get_or-paste_behind d at s n hd hs j 0
 
 by_place : {P : Type 0} {c k p : ℕ} → Place c k p → (k < c → p ≡ k → P) → (c ≤ k → p + c ≡ k → P) → P
 by_place {c = c} {k = k} pl f g = by_order k c (λ lo. f lo (pl.low lo)) (λ up. g up (pl.high up))
 
-module _ (r s : List ℕ) (h n k p : ℕ) (hh : h < length r) (hn : n + k ≤ length r) (hs : k ≤ length s) (pl : Place (length r) (h + n) p) where
+module _ {A : Type 0} (r s : List A) (h n k p : ℕ) (hh : h < length r) (hn : n + k ≤ length r) (hs : k ≤ length s) (pl : Place (length r) (h + n) p) where
+  -- an element, which is read where a list has none
+  z : A
+  z = some_of r (omega arith)
+
   -- a ring r' that has s behind the first n, and else what r has, by places
-  module _ (r' : List ℕ) (l : length r' ≡ length r)
-      (old : (i q : ℕ) → i < n → Place (length r) (h + i) q → get_or r' q 0 ≡ get_or r q 0)
-      (new : (i q : ℕ) → i < k → Place (length r) (h + (n + i)) q → get_or r' q 0 ≡ get_or s i 0)
-      (rest : (i q : ℕ) → n + k ≤ i → i < length r → Place (length r) (h + i) q → get_or r' q 0 ≡ get_or r q 0)
+  module _ (r' : List A) (l : length r' ≡ length r)
+      (old : (i q : ℕ) → i < n → Place (length r) (h + i) q → get_or r' q z ≡ get_or r q z)
+      (new : (i q : ℕ) → i < k → Place (length r) (h + (n + i)) q → get_or r' q z ≡ get_or s i z)
+      (rest : (i q : ℕ) → n + k ≤ i → i < length r → Place (length r) (h + i) q → get_or r' q z ≡ get_or r q z)
     where
       m : length (whole r h) ≡ length r
       m = queued-length r h hh (length r) (omega arith)
@@ -60,22 +72,22 @@ module _ (r s : List ℕ) (h n k p : ℕ) (hh : h < length r) (hn : n + k ≤ le
       hd : n + k ≤ length (whole r h)
       hd = omega (arith, m)
 
-      at_place : (i q : ℕ) → i < length r → Place (length r) (h + i) q → get_or (whole r' h) i 0 ≡ get_or (paste (whole r h) n s k) i 0
+      at_place : (i q : ℕ) → i < length r → Place (length r) (h + i) q → get_or (whole r' h) i z ≡ get_or (paste (whole r h) n s k) i z
       at_place i q hi ql =
-          let e : get_or (whole r' h) i 0 ≡ get_or r' q 0 = queued_at r' h (omega arith) (length r') i q (omega arith) (omega arith) (rw l ql) in
-          let f : get_or (whole r h) i 0 ≡ get_or r q 0 = queued_at r h hh (length r) i q (omega arith) (omega arith) ql in
+          let e : get_or (whole r' h) i z ≡ get_or r' q z = get_or-queued r' h (omega arith) (length r') i q z (omega arith) (omega arith) (rw l ql) in
+          let f : get_or (whole r h) i z ≡ get_or r q z = get_or-queued r h hh (length r) i q z (omega arith) (omega arith) ql in
           by_order i n
-          (λ lo. e ∙ old i q lo ql ∙ sym (paste-before (whole r h) n s k hd hs i lo ∙ f))
+          (λ lo. e ∙ old i q lo ql ∙ sym (get_or-paste_before (whole r h) n s k hd hs i z lo ∙ f))
           (λ up.
           by_order i (n + k)
           (λ inside.
           let d : n + (i - n) ≡ i = omega arith in
-          e ∙ new (i - n) q (omega arith) (rw d ql) ∙ sym (paste-in (whole r h) n s k hd hs i (i - n) (sym d) (omega arith)))
-          (λ out. e ∙ rest i q out hi ql ∙ sym (paste-behind (whole r h) n s k hd hs i out ∙ f)))
+          e ∙ new (i - n) q (omega arith) (rw d ql) ∙ sym (get_or-paste_in (whole r h) n s k hd hs i z (i - n) (sym d) (omega arith)))
+          (λ out. e ∙ rest i q out hi ql ∙ sym (get_or-paste_behind (whole r h) n s k hd hs i z out ∙ f)))
 
       ring_is : whole r' h ≡ paste (whole r h) n s k
       ring_is =
-          ext_get_or 0 (whole r' h) (paste (whole r h) n s k) (m' ∙ l ∙ sym (length-paste (whole r h) n s k hd hs ∙ m))
+          ext_get_or z (whole r' h) (paste (whole r h) n s k) (m' ∙ l ∙ sym (length-paste (whole r h) n s k hd hs ∙ m))
           (λ i hi.
           let hi' : i < length r = omega (arith, m') in
           let q : (q : ℕ) × Place (length r) (h + i) q = placed (length r) (h + i) (omega arith) in
@@ -87,19 +99,19 @@ module _ (r s : List ℕ) (h n k p : ℕ) (hh : h < length r) (hn : n + k ≤ le
       ring_is (paste r p s k) (length-paste r p s k hp hs)
       (λ i q hi ql.
       by_order q p
-      (λ lo. paste-before r p s k hp hs q lo)
-      (λ up. paste-behind r p s k hp hs q (by_place pl (λ x u. by_place ql (λ y v. omega arith) (λ y v. omega arith)) (λ x u. by_place ql (λ y v. omega arith) (λ y v. omega arith)))))
+      (λ lo. get_or-paste_before r p s k hp hs q z lo)
+      (λ up. get_or-paste_behind r p s k hp hs q z (by_place pl (λ x u. by_place ql (λ y v. omega arith) (λ y v. omega arith)) (λ x u. by_place ql (λ y v. omega arith) (λ y v. omega arith)))))
       (λ i q hi ql.
-      paste-in r p s k hp hs q i
+      get_or-paste_in r p s k hp hs q z i
       (by_place pl (λ x u. by_place ql (λ y v. omega arith) (λ y v. omega arith)) (λ x u. by_place ql (λ y v. omega arith) (λ y v. omega arith))) hi)
       (λ i q hi hc ql.
       by_order q p
-      (λ lo. paste-before r p s k hp hs q lo)
-      (λ up. paste-behind r p s k hp hs q (by_place pl (λ x u. by_place ql (λ y v. omega arith) (λ y v. omega arith)) (λ x u. by_place ql (λ y v. omega arith) (λ y v. omega arith)))))
+      (λ lo. get_or-paste_before r p s k hp hs q z lo)
+      (λ up. get_or-paste_behind r p s k hp hs q z (by_place pl (λ x u. by_place ql (λ y v. omega arith) (λ y v. omega arith)) (λ x u. by_place ql (λ y v. omega arith) (λ y v. omega arith)))))
 
   -- two runs: a up to the ring's end, and the others from its start
   module _ (a : ℕ) (ea : p + a ≡ length r) (ha : a < k) where
-    r1 : List ℕ
+    r1 : List A
     r1 = paste r p s a
 
     l1 : length r1 ≡ length r
@@ -112,27 +124,27 @@ module _ (r s : List ℕ) (h n k p : ℕ) (hh : h < length r) (hn : n + k ≤ le
     s2 : k - a ≤ length (drop a s)
     s2 = simp length-drop (omega arith)
 
-    r2 : List ℕ
+    r2 : List A
     r2 = paste r1 0 (drop a s) (k - a)
 
-    old2 : (q : ℕ) → k - a ≤ q → q < p → get_or r2 q 0 ≡ get_or r q 0
+    old2 : (q : ℕ) → k - a ≤ q → q < p → get_or r2 q z ≡ get_or r q z
     unfolding r2 r1
-    old2 q h1 h2 = paste-behind r1 0 (drop a s) (k - a) f2 s2 q (omega arith) ∙ paste-before r p s a (omega arith) (omega arith) q h2
+    old2 q h1 h2 = get_or-paste_behind r1 0 (drop a s) (k - a) f2 s2 q z (omega arith) ∙ get_or-paste_before r p s a (omega arith) (omega arith) q z h2
 
-    new2 : (i q : ℕ) → i < k → Place (length r) (h + (n + i)) q → get_or r2 q 0 ≡ get_or s i 0
+    new2 : (i q : ℕ) → i < k → Place (length r) (h + (n + i)) q → get_or r2 q z ≡ get_or s i z
     unfolding r2 r1
     new2 i q hi ql =
         by_order i a
         (λ lo.
         let e : q ≡ p + i = by_place pl (λ x u. by_place ql (λ y v. omega arith) (λ y v. omega arith)) (λ x u. by_place ql (λ y v. omega arith) (λ y v. omega arith)) in
-        paste-behind r1 0 (drop a s) (k - a) f2 s2 q (by_place pl (λ x u. omega arith) (λ x u. omega arith))
-        ∙ paste-in r p s a (omega arith) (omega arith) q i e lo)
+        get_or-paste_behind r1 0 (drop a s) (k - a) f2 s2 q z (by_place pl (λ x u. omega arith) (λ x u. omega arith))
+        ∙ get_or-paste_in r p s a (omega arith) (omega arith) q z i e lo)
         (λ up.
         let e : q ≡ 0 + (i - a) = by_place pl (λ x u. by_place ql (λ y v. omega arith) (λ y v. omega arith)) (λ x u. by_place ql (λ y v. omega arith) (λ y v. omega arith)) in
         let d : a + (i - a) ≡ i = omega arith in
-        paste-in r1 0 (drop a s) (k - a) f2 s2 q (i - a) e (omega arith)
-        ∙ get_or-drop a s (i - a) 0
-        ∙ ap (λ (x : ℕ). get_or s x 0) d)
+        get_or-paste_in r1 0 (drop a s) (k - a) f2 s2 q z (i - a) e (omega arith)
+        ∙ get_or-drop a s (i - a) z
+        ∙ ap (λ (x : ℕ). get_or s x z) d)
 
     pub two_runs : whole (paste (paste r p s a) 0 (drop a s) (k - a)) h ≡ paste (whole r h) n s k
     unfolding r2 r1

@@ -1,10 +1,10 @@
 // A host with one table: what it lends to the calls, and the sockets that it was given.
 use crate::call::Call;
-use promise::Answer;
+use promise::Accepted;
 use std::alloc::{AllocError, Global};
 use wording::dotted::Dotted;
 use wording::write::{Delivered, Letters, Runs, Wakes};
-use words::{Errno, Handle, Verdict};
+use words::{Errno, Handle};
 
 // There is room for a table of up to 40 slots of capacity 65,536.
 const WORDS: usize = 12_488;
@@ -40,7 +40,7 @@ pub struct Host {
 // What a call answered and delivered.
 #[derive(Drop)]
 struct Reply {
-    answer: Answer,
+    answer: Result<Accepted, Errno>,
     data: Vec<u8>,
     items: Vec<u32>,
 }
@@ -60,14 +60,10 @@ impl Host {
 
     // A fresh table.
     pub fn make(&mut self, slots: usize, capacity: usize) -> Result<(), Errno> {
-        match unix_socket::make(&mut self.words, &self.bytes, &self.tokens, slots, capacity) {
-            Verdict::Refused(no) => Err(no),
-            Verdict::Accepted => {
-                self.size = Some(Size { slots, capacity });
-                self.held.clear();
-                Ok(())
-            }
-        }
+        unix_socket::make(&mut self.words, &self.bytes, &self.tokens, slots, capacity)?;
+        self.size = Some(Size { slots, capacity });
+        self.held.clear();
+        Ok(())
     }
 
     // A word of the storage, where there is one.
@@ -81,7 +77,9 @@ impl Host {
             return Ok(None);
         };
         let reply = self.reply(alloc, size, call)?;
-        self.note(call, reply.answer)?;
+        if let Ok(accepted) = reply.answer {
+            self.note(call, accepted)?;
+        }
         Ok(Some(self.text(alloc, size, call, &reply)?))
     }
 
@@ -166,16 +164,13 @@ impl Host {
     }
 
     // Keeps the socket that the call opened, and lets go the one that it closed.
-    fn note(&mut self, call: &Call, answer: Answer) -> Result<(), AllocError> {
-        if answer.refusal != 0 {
-            return Ok(());
-        }
+    fn note(&mut self, call: &Call, accepted: Accepted) -> Result<(), AllocError> {
         if let Call::Close(handle) = call {
             let closed = handle.0;
             self.held.retain(|held| *held != closed);
         }
         if call.opens() && self.held.len() < MOST_HELD {
-            self.held.push(answer.value)?;
+            self.held.push(accepted.value)?;
         }
         Ok(())
     }
@@ -188,37 +183,49 @@ impl Host {
         call: &Call,
         reply: &Reply,
     ) -> Result<String, AllocError> {
-        let answer = reply.answer;
-        let mut text = format!(in alloc; "{}", answer.refusal)?;
-        if answer.value != 0 {
-            if call.opens() {
-                write!(text, " value {}", Dotted(answer.value))?;
-            } else {
-                write!(text, " value {}", answer.value)?;
-            }
+        let mut text = format!(in alloc; "{}", words::refusal(reply.answer))?;
+        if let Ok(accepted) = reply.answer {
+            self.delivered(&mut text, call, accepted, reply)?;
+            self.notices(&mut text, accepted)?;
         }
-        let data = first(&reply.data, answer.value);
-        if !data.is_empty() {
-            write!(text, " data {}", Delivered(data))?;
-        }
-        let items = first(&reply.items, answer.items);
-        if !items.is_empty() {
-            write!(text, " items {}", Runs(items))?;
-        }
-        if answer.flags != 0 {
-            write!(text, " flags {}", answer.flags)?;
-        }
-        self.notices(&mut text, answer)?;
         self.readiness(&mut text, size)?;
         Ok(text)
     }
 
-    fn notices(&self, text: &mut String, answer: Answer) -> Result<(), AllocError> {
-        let wakes = first(&self.wakes, answer.wakes);
+    fn delivered(
+        &self,
+        text: &mut String,
+        call: &Call,
+        accepted: Accepted,
+        reply: &Reply,
+    ) -> Result<(), AllocError> {
+        if accepted.value != 0 {
+            if call.opens() {
+                write!(text, " value {}", Dotted(accepted.value))?;
+            } else {
+                write!(text, " value {}", accepted.value)?;
+            }
+        }
+        let data = first(&reply.data, accepted.value);
+        if !data.is_empty() {
+            write!(text, " data {}", Delivered(data))?;
+        }
+        let items = first(&reply.items, accepted.items);
+        if !items.is_empty() {
+            write!(text, " items {}", Runs(items))?;
+        }
+        if accepted.flags != 0 {
+            write!(text, " flags {}", accepted.flags)?;
+        }
+        Ok(())
+    }
+
+    fn notices(&self, text: &mut String, accepted: Accepted) -> Result<(), AllocError> {
+        let wakes = first(&self.wakes, accepted.wakes);
         if !wakes.is_empty() {
             write!(text, " wakes {}", Wakes(wakes))?;
         }
-        let releases = first(&self.releases, answer.releases);
+        let releases = first(&self.releases, accepted.releases);
         if !releases.is_empty() {
             write!(text, " releases {}", Runs(releases))?;
         }
@@ -247,10 +254,10 @@ impl Host {
 }
 
 // A refusal shows as a number that is no readiness.
-fn shown(answer: Answer) -> u64 {
-    match answer.refusal {
-        0 => answer.value,
-        refusal => u64::from(refusal) + 100,
+fn shown(readiness: Result<Accepted, Errno>) -> u64 {
+    match readiness {
+        Ok(accepted) => accepted.value,
+        Err(no) => u64::from(no.number()) + 100,
     }
 }
 

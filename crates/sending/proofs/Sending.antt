@@ -9,9 +9,9 @@ use lib.Dec.{leb, ltb}
 use borrow.Author.Tests.{lt-leb, not-false}
 use lib.ListN.{length, take, set}
 use lib.Seq.{set-set}
+use Rattle.std.specs.Prelude.{Result, Ok, Err}
 use Rattle.words.specs.Numbers.{number_of, refusal_of}
 use Rattle.words.specs.declared.Errno.{Errno}
-use Rattle.words.specs.declared.Verdict.{Verdict}
 use Rattle.words.proofs.Names.{number_some}
 use Rattle.inbox.specs.View as inbox
 use Rattle.inbox.specs.View.{count}
@@ -154,7 +154,7 @@ module _ (t : Table) (p h : ℕ) (i : model.Inbox) (x y : Bool) (q : Inbox) (sz 
 -- ── What the code leaves ──
 
 module _ (n c : ℕ) (w b t : List ℕ) (l : Lists) (buf its : List ℕ) (k : Known n c (lent w b t)) (p : ℕ) (o : open_in n w p ≡ true) (con : Connection)
-    (e : state_of (cell_at w (slot_of p)) ≡ Connected con) (v : Verdict) (ev : refusal_of v ≡ push_no c (count con.inbox) (length buf) con.inbox.items (length its)) (r : Answer) where
+    (e : state_of (cell_at w (slot_of p)) ≡ Connected con) (v : Result Unit Errno) (ev : refusal_of v ≡ push_no c (count con.inbox) (length buf) con.inbox.items (length its)) (r : Answer) where
   abbrev s : Store
   s = lent w b t
 
@@ -168,7 +168,7 @@ module _ (n c : ℕ) (w b t : List ℕ) (l : Lists) (buf its : List ℕ) (k : Kn
       ≡ send (view n c (lent w b t)) p buf its (model.State.Connected con.peer.0 old con.inbox_closed con.outbox_closed)
   reached = ap (send (view n c s) p buf its) hd.state_is
 
-  refused_at : (x : Errno) → v ≡ Verdict.Refused x → r ≡ refused_with (number_of x) → Sends n c (lent w b t) (lent w b t) p buf its l l r
+  refused_at : (x : Errno) → v ≡ Err x → r ≡ refused_with (number_of x) → Sends n c (lent w b t) (lent w b t) p buf its l l r
   unfolding view
   refused_at x ex er =
       record {
@@ -304,11 +304,11 @@ module _ {n c : ℕ} {w b t : List ℕ} {u v : ℕ} (a : Admitted n c (lent w b 
       unfolding row_at
       inbox_well = subst (λ (i : ℕ). Well c (part (places_base n i) 256 w) con.inbox) (sym ej) at_hand.well
 
-      module _ (buf its : List ℕ) (d : Verdict) (ed : refusal_of d ≡ push_no c (count con.inbox) (length buf) con.inbox.items (length its)) where
-        pub sends_refused : (l : Lists) (r : Answer) (x : Errno) → d ≡ Verdict.Refused x → r ≡ refused_with (number_of x) → Sends n c (lent w b t) (lent w b t) p buf its l l r
+      module _ (buf its : List ℕ) (d : Result Unit Errno) (ed : refusal_of d ≡ push_no c (count con.inbox) (length buf) con.inbox.items (length its)) where
+        pub sends_refused : (l : Lists) (r : Answer) (x : Errno) → d ≡ Err x → r ≡ refused_with (number_of x) → Sends n c (lent w b t) (lent w b t) p buf its l l r
         sends_refused l r x ex er = refused_at n c w b t l buf its (known a) p o con at_slot d ed r x ex er
 
-        module _ (yes : d ≡ Verdict.Accepted) where
+        module _ (yes : d ≡ (Ok tt)) where
           may-push : MayPush c con.inbox buf its
           may-push = sym ed ∙ ap refusal_of yes
 

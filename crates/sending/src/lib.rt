@@ -6,12 +6,13 @@ ghost use Rattle.rules.specs.Outcome.{Call};
 ghost use Rattle.storage.specs.Rows.{lent};
 ghost use Rattle.storage.specs.Finding.{open_in};
 ghost use Rattle.table.specs.Admission.{Admitted};
+ghost use Rattle.promise.specs.Answers.{told};
 ghost use Rattle.promise.specs.Promise.{lists, Runs};
 ghost use Rattle.sending.specs.Parts.{Sends};
 
-use promise::Answer;
+use promise::Accepted;
 use storage::{State, handles, inboxes};
-use words::{Errno, Handle, Verdict};
+use words::{Errno, Handle};
 
 pub fn write_admitted(
     words: &mut [u64],
@@ -23,22 +24,11 @@ pub fn write_admitted(
     c: usize,
     h: Handle,
     buf: &[u8],
-) -> Answer
+) -> Result<Accepted, Errno>
     requires { Admitted n c (lent words.old bytes.old tokens.old) (length wakes.old) (length releases.now) }
-    ensures { Runs (Call.Write h.0 buf.now) n c (lent words.old bytes.old tokens.old) (lent words.new bytes.new tokens.new) (lists wakes.old releases.now) (lists wakes.new releases.now) result }
+    ensures { Runs (Call.Write h.0 buf.now) n c (lent words.old bytes.old tokens.old) (lent words.new bytes.new tokens.new) (lists wakes.old releases.now) (lists wakes.new releases.now) (told result) }
 {
-    sendmsg_admitted(
-        words,
-        bytes,
-        tokens,
-        wakes,
-        releases,
-        n,
-        c,
-        h,
-        buf,
-        &releases[0..0],
-    )
+    sendmsg_admitted(words, bytes, tokens, wakes, releases, n, c, h, buf, &[])
 }
 
 pub fn sendmsg_admitted(
@@ -52,23 +42,22 @@ pub fn sendmsg_admitted(
     h: Handle,
     buf: &[u8],
     items: &[u32],
-) -> Answer
+) -> Result<Accepted, Errno>
     requires { Admitted n c (lent words.old bytes.old tokens.old) (length wakes.old) (length releases.now) }
-    ensures { Runs (Call.Sendmsg h.0 buf.now items.now) n c (lent words.old bytes.old tokens.old) (lent words.new bytes.new tokens.new) (lists wakes.old releases.now) (lists wakes.new releases.now) result }
+    ensures { Runs (Call.Sendmsg h.0 buf.now items.now) n c (lent words.old bytes.old tokens.old) (lent words.new bytes.new tokens.new) (lists wakes.old releases.now) (lists wakes.new releases.now) (told result) }
 {
     if !handles::is_live(words, n, h) {
-        return promise::refused(Errno::EBADF);
+        return Err(Errno::EBADF);
     }
     let slot = storage::load(words, handles::slot_of(h));
-    let state = slot.state;
-    let State::Connected(connection) = state else {
-        return promise::refused(Errno::ENOTCONN);
+    let State::Connected(connection) = slot.state else {
+        return Err(Errno::ENOTCONN);
     };
     if connection.outbox_closed {
-        return promise::refused(Errno::EPIPE);
+        return Err(Errno::EPIPE);
     }
     if !handles::is_open(words, n, connection.peer) {
-        return promise::refused(Errno::EPIPE);
+        return Err(Errno::EPIPE);
     }
     send(
         words,
@@ -96,26 +85,20 @@ fn send(
     p: Handle,
     buf: &[u8],
     items: &[u32],
-) -> Answer
+) -> Result<Accepted, Errno>
     requires admitted { Admitted n c (lent words.old bytes.old tokens.old) (length wakes.old) (length releases.now) }
     requires peer_open { open_in n words.old p.0 ≡ true }
-    ensures { Sends n c (lent words.old bytes.old tokens.old) (lent words.new bytes.new tokens.new) p.0 buf.now items.now (lists wakes.old releases.now) (lists wakes.new releases.now) result }
+    ensures { Sends n c (lent words.old bytes.old tokens.old) (lent words.new bytes.new tokens.new) p.0 buf.now items.now (lists wakes.old releases.now) (lists wakes.new releases.now) (told result) }
 {
     let j = handles::slot_of(p);
     let slot = storage::load(words, j);
-    let state = slot.state;
-    let State::Connected(peer) = state else {
-        return promise::refused(Errno::DAMAGED);
+    let State::Connected(peer) = slot.state else {
+        return Err(Errno::DAMAGED);
     };
     let inbox = peer.inbox;
-    match inbox.push_refusal(c, buf.len(), items.len()) {
-        Verdict::Refused(no) => promise::refused(no),
-        Verdict::Accepted => {
-            let pushed = inboxes::push(words, bytes, tokens, n, c, j, inbox, buf, items);
-            let inbox = pushed.inbox;
-            storage::store_inbox(words, j, slot.generation, peer, inbox);
-            wakes[0] = p.0;
-            promise::accepted(pushed.moved as u64, 1)
-        }
-    }
+    inbox.push_refusal(c, buf.len(), items.len())?;
+    let pushed = inboxes::push(words, bytes, tokens, n, c, j, inbox, buf, items);
+    storage::store_inbox(words, j, slot.generation, peer, pushed.inbox);
+    wakes[0] = p.0;
+    Ok(Accepted::new(pushed.moved as u64, 1))
 }

@@ -11,11 +11,11 @@ use lib.IntN.{ℤ, pos, negsuc}
 use lib.ListN.{length, set}
 use lib.Seq.{sets}
 use borrow.Author.Tests.{not-true, not-false, ne_eqb, eqb-true}
+use Rattle.std.specs.Prelude.{Result, Ok, Err}
 use Rattle.words.specs.Integers.{equals}
 use Rattle.words.specs.Numbers.{number_of}
 use Rattle.words.specs.declared.Errno.{Errno}
 use Rattle.abi.specs.Shutdown.{how_of}
-use Rattle.abi.specs.declared.How.{How}
 use Rattle.abi.specs.declared.ShutdownHow.{ShutdownHow}
 use Rattle.inbox.specs.View as inbox
 use Rattle.inbox.specs.View.{count}
@@ -70,13 +70,6 @@ module _ (c : ℕ) (tokens rl : List ℕ) (q : Inbox) where
   unfolding left_of dropped_of
   all_dropped true rl' r e d = record { inbox_is = d.numbers; releases_it = d.releases_it; released_are = d.released_are }
   all_dropped false rl' r e d = absurd (true≢false e)
-
-pub ends_stored : (w w' : List ℕ) (i g : ℕ) (k : Connection) (q : Inbox) (x y a b : Bool) → a ≡ k.inbox_closed || x → b ≡ k.outbox_closed || y
-    → w' ≡ store_at w i (cell_of g (Connected (record { peer = k.peer; inbox = q; inbox_closed = a; outbox_closed = b; waits = k.waits; place = k.place })))
-    → w' ≡ store_at w i (cell_of g (Connected (ended_with k q x y)))
-ends_stored w w' i g k q x y a b ea eb e =
-    e
-    ∙ ap₂ (λ (u v : Bool). store_at w i (cell_of g (Connected (record { peer = k.peer; inbox = q; inbox_closed = u; outbox_closed = v; waits = k.waits; place = k.place })))) ea eb
 
 pub own_ended : (c i g : ℕ) (k : Connection) (rd wr : Bool) (w w' t rl rl' : List ℕ) (d : Discarded) → Drops c (part (tokens_base i) 256 t) rl rl' rd k.inbox d
     → w' ≡ store_at w i (cell_of g (Connected (ended_with k d.inbox rd wr))) → Ends c i g k rd wr w w' t rl rl' d.released
@@ -394,37 +387,37 @@ module _ {n c : ℕ} {w b t : List ℕ} {u v : ℕ} (a : Admitted n c (lent w b 
 -- ── shutdown ──
 
 -- the number, read by its three tests
-numbered : Bool → Bool → Bool → How
-numbered a b c = cond a (How.Is ShutdownHow.Read) (cond b (How.Is ShutdownHow.Write) (cond c (How.Is ShutdownHow.Both) (How.Refused Errno.EINVAL)))
+numbered : Bool → Bool → Bool → Result ShutdownHow Errno
+numbered a b c = cond a (Ok ShutdownHow.Read) (cond b (Ok ShutdownHow.Write) (cond c (Ok ShutdownHow.Both) (Err Errno.EINVAL)))
 
-abbrev taken : How → Bool
-taken (How.Is m) = true
-taken (How.Refused e) = false
+abbrev taken : Result ShutdownHow Errno → Bool
+taken (Ok m) = true
+taken (Err e) = false
 
-abbrev which : How → ShutdownHow
-which (How.Is m) = m
-which (How.Refused e) = ShutdownHow.Read
+abbrev which : Result ShutdownHow Errno → ShutdownHow
+which (Ok m) = m
+which (Err e) = ShutdownHow.Read
 
-abbrev why : How → ℕ
-why (How.Is m) = 0
-why (How.Refused e) = number_of e
+abbrev why : Result ShutdownHow Errno → ℕ
+why (Ok m) = 0
+why (Err e) = number_of e
 
-none_of : (a b c : Bool) (x : Errno) → numbered a b c ≡ How.Refused x → (not ((a || c) || (b || c)) ≡ true) × (number_of x ≡ 2)
+none_of : (a b c : Bool) (x : Errno) → numbered a b c ≡ Err x → (not ((a || c) || (b || c)) ≡ true) × (number_of x ≡ 2)
 unfolding numbered
 none_of true b c x e = absurd (true≢false (ap taken e))
 none_of false true c x e = absurd (true≢false (ap taken e))
 none_of false false true x e = absurd (true≢false (ap taken e))
 none_of false false false x e = (refl, sym (ap why e))
 
-one_of : (a b c : Bool) (m : ShutdownHow) → (a ≡ true → (b ≡ false) × (c ≡ false)) → (b ≡ true → c ≡ false) → numbered a b c ≡ How.Is m
+one_of : (a b c : Bool) (m : ShutdownHow) → (a ≡ true → (b ≡ false) × (c ≡ false)) → (b ≡ true → c ≡ false) → numbered a b c ≡ Ok m
     → (not ((a || c) || (b || c)) ≡ false) × ((a || c) ≡ reads_of m) × ((b || c) ≡ writes_of m)
 unfolding numbered
 one_of true true c m f g e = absurd (true≢false (f refl).0)
 one_of true false true m f g e = absurd (true≢false (f refl).1)
-one_of true false false m f g e = (refl, ap (λ (x : How). reads_of (which x)) e, ap (λ (x : How). writes_of (which x)) e)
+one_of true false false m f g e = (refl, ap (λ (x : Result ShutdownHow Errno). reads_of (which x)) e, ap (λ (x : Result ShutdownHow Errno). writes_of (which x)) e)
 one_of false true true m f g e = absurd (true≢false (g refl))
-one_of false true false m f g e = (refl, ap (λ (x : How). reads_of (which x)) e, ap (λ (x : How). writes_of (which x)) e)
-one_of false false true m f g e = (refl, ap (λ (x : How). reads_of (which x)) e, ap (λ (x : How). writes_of (which x)) e)
+one_of false true false m f g e = (refl, ap (λ (x : Result ShutdownHow Errno). reads_of (which x)) e, ap (λ (x : Result ShutdownHow Errno). writes_of (which x)) e)
+one_of false false true m f g e = (refl, ap (λ (x : Result ShutdownHow Errno). reads_of (which x)) e, ap (λ (x : Result ShutdownHow Errno). writes_of (which x)) e)
 one_of false false false m f g e = absurd (false≢true (ap taken e))
 
 only : (z : ℤ) (x y : ℕ) → x ≢ y → equals z x ≡ true → equals z y ≡ false
@@ -440,24 +433,24 @@ module _ (n c : ℕ) (s : Store) (h : ℕ) (how : ℤ) (f : Bool) (ef : f ≡ li
   unfolding run
   shutdown_stale l r z er = refused_done _ 1 n c s l r (stale_run n c s h f _ ef z) (λ y. omega arith) er
 
-  module _ (live' : not f ≡ false) (how' : ℤ) (eh : how' ≡ how) (x : How) (ex : x ≡ how_of how') where
+  module _ (live' : not f ≡ false) (how' : ℤ) (eh : how' ≡ how) (x : Result ShutdownHow Errno) (ex : x ≡ how_of how') where
     lives : Live n c s h
     lives = live n c s h f ef live'
 
-    asked : (y : How) → x ≡ y → numbered (equals how 0) (equals how 1) (equals how 2) ≡ y
+    asked : (y : Result ShutdownHow Errno) → x ≡ y → numbered (equals how 0) (equals how 1) (equals how 2) ≡ y
     unfolding numbered how_of
     asked y ey = ap how_of (sym eh) ∙ sym ex ∙ ey
 
-    pub shutdown_refused : (l : Lists) (r : Answer) (y : Errno) → x ≡ How.Refused y → r ≡ refused_with (number_of y) → Done out n c s s l l r
+    pub shutdown_refused : (l : Lists) (r : Answer) (y : Errno) → x ≡ Err y → r ≡ refused_with (number_of y) → Done out n c s s l l r
     unfolding run refuse_if shuts_read shuts_write
     shutdown_refused l r y ey er =
-        let p = none_of (equals how 0) (equals how 1) (equals how 2) y (asked (How.Refused y) ey) in
+        let p = none_of (equals how 0) (equals how 1) (equals how 2) y (asked (Err y) ey) in
         refused_done _ 2 n c s l r (live_run n c s h _ lives ∙ rw p.0 refl) (λ z. omega arith) (er ∙ ap refused_with p.1)
 
-    module _ (m : ShutdownHow) (em : x ≡ How.Is m) where
+    module _ (m : ShutdownHow) (em : x ≡ Ok m) where
       pub shutdown_shuts : (rd wr : Bool) → rd ≡ reads_of m → wr ≡ writes_of m → (s' : Store) (l l' : Lists) (r : Answer) → Shuts n c s s' h rd wr l l' r → Done out n c s s' l l' r
       unfolding run refuse_if shuts_read shuts_write
       shutdown_shuts rd wr er ew s' l l' r y =
-          let p = one_of (equals how 0) (equals how 1) (equals how 2) m (λ e. (only how 0 1 (λ z. omega arith) e, only how 0 2 (λ z. omega arith) e)) (only how 1 2 (λ z. omega arith)) (asked (How.Is m) em) in
+          let p = one_of (equals how 0) (equals how 1) (equals how 2) m (λ e. (only how 0 1 (λ z. omega arith) e, only how 0 2 (λ z. omega arith) e)) (only how 1 2 (λ z. omega arith)) (asked (Ok m) em) in
           y.shuts (Call.Shutdown h how)
           (live_run n c s h _ lives ∙ rw (p.0, p.1, p.2, sym er, sym ew) refl)

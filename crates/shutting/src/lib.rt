@@ -11,13 +11,13 @@ ghost use Rattle.storage.specs.Rows.{lent};
 ghost use Rattle.storage.specs.Finding.{live_in};
 ghost use Rattle.storage.specs.declared.State.TheVariants.{Connected};
 ghost use Rattle.table.specs.Admission.{Admitted};
-ghost use Rattle.promise.specs.Answers.{released_with};
+ghost use Rattle.promise.specs.Answers.{told};
 ghost use Rattle.promise.specs.Promise.{lists, Runs};
 ghost use Rattle.shutting.specs.Parts.{reads_of, writes_of, ended_with, Drops, Ends, Follows, Shuts};
 
-use abi::{How, ShutdownHow};
+use abi::ShutdownHow;
 use inbox::{Discarded, Inbox};
-use promise::Answer;
+use promise::Accepted;
 use storage::{Connection, Slot, State, handles, inboxes};
 use words::{Errno, Handle};
 
@@ -31,41 +31,29 @@ pub fn shutdown_admitted(
     c: usize,
     h: Handle,
     how: i32,
-) -> Answer
+) -> Result<Accepted, Errno>
     requires { Admitted n c (lent words.old bytes.now tokens.now) (length wakes.old) (length releases.old) }
-    ensures { Runs (Call.Shutdown h.0 how) n c (lent words.old bytes.now tokens.now) (lent words.new bytes.now tokens.now) (lists wakes.old releases.old) (lists wakes.new releases.new) result }
+    ensures { Runs (Call.Shutdown h.0 how) n c (lent words.old bytes.now tokens.now) (lent words.new bytes.now tokens.now) (lists wakes.old releases.old) (lists wakes.new releases.new) (told result) }
 {
     if !handles::is_live(words, n, h) {
-        return promise::refused(Errno::EBADF);
+        return Err(Errno::EBADF);
     }
-    match ShutdownHow::try_from(how) {
-        How::Refused(no) => promise::refused(no),
-        How::Is(ends) => {
-            let read = reads(ends);
-            let write = writes(ends);
-            shut(words, bytes, tokens, wakes, releases, n, c, h, read, write)
-        }
-    }
+    let ends = ShutdownHow::try_from(how)?;
+    let read = reads(ends);
+    let write = writes(ends);
+    shut(words, bytes, tokens, wakes, releases, n, c, h, read, write)
 }
 
 fn reads(how: ShutdownHow) -> bool
     ensures { result ≡ reads_of how }
 {
-    match how {
-        ShutdownHow::Read => true,
-        ShutdownHow::Write => false,
-        ShutdownHow::Both => true,
-    }
+    matches!(how, ShutdownHow::Read | ShutdownHow::Both)
 }
 
 fn writes(how: ShutdownHow) -> bool
     ensures { result ≡ writes_of how }
 {
-    match how {
-        ShutdownHow::Read => false,
-        ShutdownHow::Write => true,
-        ShutdownHow::Both => true,
-    }
+    matches!(how, ShutdownHow::Write | ShutdownHow::Both)
 }
 
 // shutdown from the state on.
@@ -80,16 +68,15 @@ fn shut(
     h: Handle,
     read: bool,
     write: bool,
-) -> Answer
+) -> Result<Accepted, Errno>
     requires admitted { Admitted n c (lent words.old bytes.now tokens.now) (length wakes.old) (length releases.old) }
     requires live { live_in n words.old h.0 ≡ true }
-    ensures { Shuts n c (lent words.old bytes.now tokens.now) (lent words.new bytes.now tokens.now) h.0 read write (lists wakes.old releases.old) (lists wakes.new releases.new) result }
+    ensures { Shuts n c (lent words.old bytes.now tokens.now) (lent words.new bytes.now tokens.now) h.0 read write (lists wakes.old releases.old) (lists wakes.new releases.new) (told result) }
 {
     let i = handles::slot_of(h);
     let slot = storage::load(words, i);
-    let state = slot.state;
-    let State::Connected(connection) = state else {
-        return promise::refused(Errno::ENOTCONN);
+    let State::Connected(connection) = slot.state else {
+        return Err(Errno::ENOTCONN);
     };
     let peer_open = handles::is_open(words, n, connection.peer);
     let released = end_own(
@@ -105,24 +92,11 @@ fn shut(
     );
     wakes[0] = h.0;
     if !peer_open {
-        return shut_down(1, released);
+        return Ok(Accepted::releasing(1, released));
     }
     end_peer(words, connection.peer, read, write);
     wakes[1] = connection.peer.0;
-    shut_down(2, released)
-}
-
-fn shut_down(wakes: u64, released: usize) -> Answer
-    ensures { result ≡ released_with wakes released }
-{
-    Answer {
-        refusal: 0,
-        flags: 0,
-        value: 0,
-        items: 0,
-        wakes,
-        releases: released as u64,
-    }
+    Ok(Accepted::releasing(2, released))
 }
 
 // The own socket, in slot `i`: how many items were released.
@@ -141,10 +115,8 @@ fn end_own(
     requires inbox_in { (connection.inbox.head < c) × (count connection.inbox ≤ c) × (connection.inbox.first < 256) × (connection.inbox.items ≤ 256) }
     ensures { Ends c i generation connection read write words.old words.new tokens.now releases.old releases.new result }
 {
-    let inbox = connection.inbox;
-    let left = drop_queued(tokens, c, i, inbox, releases, read);
-    let inbox = left.inbox;
-    close_ends(words, i, generation, connection, inbox, read, write);
+    let left = drop_queued(tokens, c, i, connection.inbox, releases, read);
+    close_ends(words, i, generation, connection, left.inbox, read, write);
     left.released
 }
 
@@ -155,12 +127,10 @@ fn end_peer(words: &mut [u64], p: Handle, read: bool, write: bool)
 {
     let j = handles::slot_of(p);
     let slot = storage::load(words, j);
-    let state = slot.state;
-    let State::Connected(peer) = state else {
+    let State::Connected(peer) = slot.state else {
         return;
     };
-    let inbox = peer.inbox;
-    close_ends(words, j, slot.generation, peer, inbox, write, read);
+    close_ends(words, j, slot.generation, peer, peer.inbox, write, read);
 }
 
 // "Read drops inbox bytes, releases its items"
@@ -195,23 +165,11 @@ fn close_ends(
     requires { 8 + 16 * i + 16 ≤ length words.old }
     ensures { words.new ≡ store_at words.old i (cell_of generation (Connected (ended_with connection inbox inbox_closes outbox_closes))) }
 {
-    let peer = connection.peer;
     let state = State::Connected(Connection {
-        peer,
         inbox,
-        inbox_closed: either(connection.inbox_closed, inbox_closes),
-        outbox_closed: either(connection.outbox_closed, outbox_closes),
-        waits: connection.waits,
-        place: connection.place,
+        inbox_closed: connection.inbox_closed | inbox_closes,
+        outbox_closed: connection.outbox_closed | outbox_closes,
+        ..connection
     });
     storage::store(words, i, Slot { generation, state });
-}
-
-fn either(a: bool, b: bool) -> bool
-    ensures { result ≡ a || b }
-{
-    if a {
-        return true;
-    }
-    b
 }

@@ -5,9 +5,8 @@ use mathlib.Core.Bool.{Bool, true, false, not}
 use mathlib.Core.List.{List}
 use Prim.Native.Nat.{ℕ}
 use lib.Dec.{eqb}
-use mir.Val.{bool_byte}
 use borrow.Author.Tests.{ne_eqb}
-use Rattle.storage.specs.Cells.{cell_at, store_at, state_of, listener_of, connection_of, cell_of, plain_cell, listening_cell, connected_cell, flag}
+use Rattle.storage.specs.Cells.{cell_at, state_of, listener_of, connection_of, cell_of, flag}
 use Rattle.storage.specs.declared.Cell.{Cell}
 use Rattle.storage.specs.declared.Slot.{Slot}
 use Rattle.storage.specs.declared.Listener.{Listener}
@@ -47,10 +46,6 @@ module _ (k : Cell) where
 abbrev pub loaded_at : List ℕ → ℕ → Slot
 loaded_at w i = record { generation = (cell_at w i).generation; state = state_of (cell_at w i) }
 
-pub loaded : (w : List ℕ) (i : ℕ) (k : Cell) (s : State) → k ≡ cell_at w i → s ≡ state_of k
-    → ◌≡◌ {A = Slot} (record { generation = k.generation; state = s }) (loaded_at w i)
-loaded w i k s e z = ap₂ (λ (g : ℕ) (x : State). record { generation = g; state = x }) (ap (λ (x : Cell). x.generation) e) (z ∙ ap state_of e)
-
 -- the slot that was loaded is that of j
 module _ (w : List ℕ) {i j : ℕ} {s : Slot} (e : i ≡ j) (z : s ≡ loaded_at w i) where
   pub loaded_generation : s.generation ≡ (cell_at w j).generation
@@ -58,53 +53,6 @@ module _ (w : List ℕ) {i j : ℕ} {s : Slot} (e : i ≡ j) (z : s ≡ loaded_a
 
   pub loaded_state : s.state ≡ state_of (cell_at w j)
   loaded_state = ap (λ (x : Slot). x.state) z ∙ ap (λ (x : ℕ). state_of (cell_at w x)) e
-
-pub flag_is : (b : Bool) → bool_byte b ≡ flag b
-flag_is true = refl
-flag_is false = refl
-
-pub connected_is : (g : ℕ) (c : Connection) → ◌≡◌ {A = Cell}
-    (record {
-      generation = g;
-      tag = 4;
-      name = 0;
-      backlog = 0;
-      head = 0;
-      pending = 0;
-      peer = c.peer.0;
-      inbox_closed = bool_byte c.inbox_closed;
-      outbox_closed = bool_byte c.outbox_closed;
-      byte = c.inbox.head;
-      written_total = c.inbox.written_total;
-      read_total = c.inbox.read_total;
-      first = c.inbox.first;
-      items = c.inbox.items;
-      waits = c.waits;
-      place = c.place;
-    })
-    (connected_cell g c)
-connected_is g c = rw (flag_is c.inbox_closed, flag_is c.outbox_closed)
-
-module _ (s : Slot) (r : Cell) where
-  pub as_closed : s.state ≡ Closed → r ≡ plain_cell s.generation 0 0 → r ≡ cell_of s.generation s.state
-  unfolding cell_of
-  as_closed e h = h ∙ rw e
-
-  pub as_unbound : s.state ≡ Unbound → r ≡ plain_cell s.generation 1 0 → r ≡ cell_of s.generation s.state
-  unfolding cell_of
-  as_unbound e h = h ∙ rw e
-
-  pub as_bound : (m : ℕ) → s.state ≡ Bound m → r ≡ plain_cell s.generation 2 m → r ≡ cell_of s.generation s.state
-  unfolding cell_of
-  as_bound m e h = h ∙ rw e
-
-  pub as_listening : (l : Listener) → s.state ≡ Listening l → r ≡ listening_cell s.generation l → r ≡ cell_of s.generation s.state
-  unfolding cell_of
-  as_listening l e h = h ∙ rw e
-
-  pub as_connected : (c : Connection) → s.state ≡ Connected c → r ≡ connected_cell s.generation c → r ≡ cell_of s.generation s.state
-  unfolding cell_of
-  as_connected c e h = h ∙ rw e
 
 -- ── There and back ──
 
@@ -129,9 +77,6 @@ back_gen g Unbound = refl
 back_gen g (Bound m) = refl
 back_gen g (Listening l) = refl
 back_gen g (Connected c) = refl
-
-pub stored : (w w' : List ℕ) (i : ℕ) (k : Cell) (s : Slot) → k ≡ cell_of s.generation s.state → w' ≡ store_at w i k → w' ≡ store_at w i (cell_of s.generation s.state)
-stored w w' i k s e h = h ∙ ap (store_at w i) e
 
 -- ── What a state holds ──
 

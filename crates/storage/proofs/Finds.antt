@@ -1,30 +1,31 @@
 -- What the searches and the tests leave at each return.
 use mathlib.Core.Path.{◌≡◌, refl, sym, ap, ◌∙◌}
 use mathlib.Core.Logic.{◌⊎◌, inl, inr}
-use mathlib.Core.Bool.{Bool, true, false, cond, not, false≢true}
+use mathlib.Core.Bool.{Bool, true, false, cond, false≢true}
 use mathlib.Core.List.{List}
-use Prim.Native.Nat.{ℕ, zero, suc, ◌+◌, ◌-◌, ◌*◌, ◌/◌, ◌%◌, ◌≤◌, ◌<◌, min}
+use Prim.Native.Nat.{ℕ, zero, suc, ◌+◌, ◌-◌, ◌≤◌, ◌<◌, min}
 use native.Mathlib.Nat.{not-suc-le-zero}
-use native.Mathlib.Decide.{dec_lt, ℕ_discrete as dec_eq}
+use native.Mathlib.Decide.{ℕ_discrete as dec_eq}
 use native.Mathlib.Omega.{arith}
+use lib.Pointwise.{pointwise, bytes_decides}
 use lib.Dec.{eqb, ltb}
+use Rattle.std.specs.Prelude.{Option, Some, None}
+use denote.Ref.{Bor}
+use Rattle.std.specs.Array.{IsFirstChunk, IsWholeChunk}
+use Rattle.std.specs.Option.{MatchOption, option_eq}
+use Rattle.std.proofs.lemmas.Option.{cond_some, none-some}
 use lib.ListN.{length, take, drop, get_or}
 use lib.Seq.{take-take, take_all}
-use borrow.Author.Tests.{lt-ltb, le-ltb, ltb-true, eq-eqb, ne_eqb, not-true, not-false}
+use borrow.Author.Tests.{lt-ltb, le-ltb, ltb-true, ne_eqb}
 use Rattle.laws.proofs.Tests.{less_or, and_three}
-use Rattle.le.specs.Le.{le}
 use Rattle.rules.specs.Table.{slot_of, handle, same}
 use Rattle.rules.proofs.Wf.{same_refl, same_eq}
 use Rattle.storage.specs.Layout.{part, cell_base}
 use Rattle.storage.specs.Cells.{cell_at, state_of, connection_of}
-use Rattle.storage.specs.Finding.{least, occupied, waiting, open_in, live_in, free_cell, named, holds_cell}
+use Rattle.storage.specs.Finding.{least, lowest, occupied, open_in, named, holds_cell}
 use Rattle.storage.specs.declared.Cell.{Cell}
-use Rattle.storage.specs.declared.State.{State}
 use Rattle.storage.specs.declared.State.TheVariants.{Closed, Unbound, Connected}
-use Rattle.storage.specs.declared.Connection.{Connection}
-use Rattle.storage.specs.declared.Slot.{Slot}
 use Rattle.storage.proofs.Pasted.{length_part}
-use Rattle.storage.proofs.Coding.{loaded_generation, loaded_state, loaded_at}
 
 -- ── The least that passes ──
 
@@ -39,62 +40,41 @@ unfolding least
 least_none zero p f = refl
 least_none (suc n) p f = rw (f zero (omega arith)) (ap suc (least_none n (λ k. p (suc k)) (λ j l. f (suc j) (omega arith))))
 
--- a search that has come to i: none before it
-pub record NoneBefore (p : ℕ → Bool) (i : ℕ) : Type 0 where
-  pub none : (j : ℕ) → j < i → p j ≡ false
-
-pub none_yet : (p : ℕ → Bool) → NoneBefore p 0
-none_yet p = record { none = λ j h. absurd (not-suc-le-zero h) }
-
-pub none_here : (p : ℕ → Bool) (i : ℕ) → NoneBefore p i → p i ≡ false → NoneBefore p (i + 1)
-none_here p i b e = record { none = λ j h. go j h (dec_lt j i) }
+pub least-below : (n : ℕ) (p : ℕ → Bool) → least n p ≤ n
+unfolding least
+least-below zero p = omega arith
+least-below (suc n) p = go (p zero) (least-below n (λ k. p (suc k)))
   where
-    go : (j : ℕ) → j < i + 1 → Dec (j < i) → p j ≡ false
-    go j h (yes l) = b.none j l
-    go j h (no l) = let z : j ≡ i = omega arith in ap p z ∙ e
+    go : (b : Bool) → least n (λ k. p (suc k)) ≤ n → cond b zero (suc (least n (λ k. p (suc k)))) ≤ suc n
+    go true h = omega arith
+    go false h = omega arith
 
-pub found_at : (n : ℕ) (p : ℕ → Bool) (i : ℕ) (r : Bool) → i < n → NoneBefore p i → r ≡ p i → r ≡ true → i ≡ least n p
-found_at n p i r h b e t = sym (least_at n p i h (sym e ∙ t) b.none)
+-- what a search over `0..n` has found
+pub lowest_found : (n : ℕ) (p : ℕ → Bool) (r : Option ℕ)
+    → MatchOption r ((k : ℕ) → 0 ≤ k → k < n → p k ≡ false) (λ i. (0 ≤ i) × (i < n) × (p i ≡ true) × ((k : ℕ) → 0 ≤ k → k < i → p k ≡ false))
+    → r ≡ lowest n p
+unfolding lowest
+lowest_found n p None f = rw (least_none n p (λ j h. f j (omega arith) h), le-ltb n n (omega arith))
+lowest_found n p (Some i) f = rw (least_at n p i f.1 f.2 (λ j h. f.3 j (omega arith) h), lt-ltb i n f.1)
 
-pub found_none : (n : ℕ) (p : ℕ → Bool) (i : ℕ) → n ≤ i → i ≤ n → NoneBefore p i → n ≡ least n p
-found_none n p i h k b = sym (least_none n p (λ j l. b.none j (omega arith)))
+-- what its answer says of `least`
+pub lowest-some : (n : ℕ) (p : ℕ → Bool) (r : Option ℕ) (i : ℕ) → r ≡ lowest n p → r ≡ Some i → (i ≡ least n p) × (i < n)
+unfolding lowest
+lowest-some n p r i e h =
+    let z = cond_some (ltb (least n p) n) (least n p) i (sym e ∙ h) in
+    let l = ltb-true (least n p) n z.0 in
+    let s = z.1 in
+    (sym s, omega arith)
+
+pub lowest-none : (n : ℕ) (p : ℕ → Bool) (r : Option ℕ) → r ≡ lowest n p → r ≡ None → least n p ≡ n
+unfolding lowest
+lowest-none n p r e h = go (less_or (least n p) n)
+  where
+    go : (least n p < n) ⊎ (n ≤ least n p) → least n p ≡ n
+    go (inl l) = absurd (none-some (least n p) (sym h ∙ e ∙ rw (lt-ltb (least n p) n l)))
+    go (inr l) = let b = least-below n p in omega arith
 
 -- ── Handles ──
-
-gen_slot : (g h : ℕ) → eqb (handle g (slot_of h)) h ≡ eqb g (h / 65536)
-gen_slot g h =
-    elim (dec_eq g (h / 65536)) [
-      | yes e ↦ let z : g * 65536 + h % 65536 ≡ h = omega arith in eq-eqb (handle g (slot_of h)) h z ∙ sym (eq-eqb g (h / 65536) e)
-      | no ne ↦ ne_eqb (handle g (slot_of h)) h (λ z. ne (omega arith)) ∙ sym (ne_eqb g (h / 65536) ne)
-    ]
-
-module _ (n : ℕ) (w : List ℕ) (h i : ℕ) (ei : i ≡ slot_of h) where
-  pub open_out : n ≤ i → false ≡ open_in n w h
-  unfolding open_in
-  open_out l = rw (le-ltb (slot_of h) n (omega arith))
-
-  pub open_stale : (s : Slot) → s ≡ loaded_at w i → i < n → (s.generation ≡ h / 65536 → ⊥) → false ≡ open_in n w h
-  unfolding open_in
-  open_stale s es l ne =
-      let g : s.generation ≡ (cell_at w (slot_of h)).generation = loaded_generation w ei es in
-      rw (lt-ltb (slot_of h) n (omega arith), gen_slot (cell_at w (slot_of h)).generation h, ne_eqb (cell_at w (slot_of h)).generation (h / 65536) (λ z. ne (g ∙ z)))
-
-  pub open_by_state : (s : Slot) (r : Bool) → s ≡ loaded_at w i → i < n → s.generation ≡ h / 65536 → r ≡ occupied s.state → r ≡ open_in n w h
-  unfolding open_in
-  open_by_state s r es l eg er =
-      let g : (cell_at w (slot_of h)).generation ≡ h / 65536 = sym (loaded_generation w ei es) ∙ eg in
-      er ∙ ap occupied (loaded_state w ei es)
-      ∙ rw (lt-ltb (slot_of h) n (omega arith), gen_slot (cell_at w (slot_of h)).generation h, eq-eqb (cell_at w (slot_of h)).generation (h / 65536) g)
-
-pub not_live : (n : ℕ) (w : List ℕ) (h : ℕ) (r : Bool) → r ≡ open_in n w h → not r ≡ true → false ≡ live_in n w h
-unfolding live_in
-not_live n w h r e t = rw (sym e ∙ not-true r t)
-
-pub live_by_state : (n : ℕ) (w : List ℕ) (h i : ℕ) (o : Bool) (s : Slot) (r : Bool) → o ≡ open_in n w h → not o ≡ false → i ≡ slot_of h
-    → s ≡ loaded_at w i → r ≡ waiting s.state → not r ≡ live_in n w h
-unfolding live_in
-live_by_state n w h i o s r eo t ei es er =
-    ap not (er ∙ ap waiting (loaded_state w ei es)) ∙ rw (sym eo ∙ not-false o t)
 
 -- an open handle's slot is one of n
 pub open_slot : (n : ℕ) (w : List ℕ) (h : ℕ) → open_in n w h ≡ true → slot_of h < n
@@ -106,14 +86,6 @@ unfolding open_in
 open_used_in n w h e = (and_three (ltb (slot_of h) n) (eqb (handle (cell_at w (slot_of h)).generation (slot_of h)) h) (occupied (state_of (cell_at w (slot_of h)))) e).2
 
 -- ── Free slots ──
-
-pub not_free : (k : Cell) (σ : State) (r : Bool) → σ ≡ state_of k → r ≡ occupied σ → r ≡ true → false ≡ free_cell k
-unfolding free_cell
-not_free k σ r es er t = rw (sym (ap occupied es) ∙ sym er ∙ t)
-
-pub free_by_generation : (k : Cell) (σ : State) (r : Bool) → σ ≡ state_of k → r ≡ occupied σ → r ≡ false → ltb k.generation 4294967295 ≡ free_cell k
-unfolding free_cell
-free_by_generation k σ r es er t = rw (sym (ap occupied es) ∙ sym er ∙ t)
 
 -- ── Names ──
 
@@ -132,11 +104,36 @@ apart a b ne = go (same a b) refl
     go true e = absurd (ne (same_eq a b e))
     go false e = sym e
 
+-- what `==` answers of two names, and of what their ends alone show
+pub equal_is : (a b : List ℕ) (r : Bool) → r ≡ pointwise eqb a b → r ≡ same a b
+equal_is a b r e = e ∙ same_is a b (pointwise eqb a b) (bytes_decides a b)
+
 pub other_length : (a b : List ℕ) → (length a ≡ length b → ⊥) → false ≡ same a b
 other_length a b ne = apart a b (λ e. ne (ap length e))
 
-pub other_bytes : (a b : List ℕ) (p x y : ℕ) → x ≡ le 8 a p → y ≡ le 8 b p → (x ≡ y → ⊥) → false ≡ same a b
-other_bytes a b p x y ex ey ne = apart a b (λ e. ne (ex ∙ ap (λ (l : List ℕ). le 8 l p) e ∙ sym ey))
+-- the first and the last eight bytes, where there are so many
+abbrev FirstOf : List ℕ → Option (Bor (List ℕ)) → Type 0
+FirstOf l o = MatchOption o (length l < 8) (λ y. IsFirstChunk l y.now 8)
+
+abbrev LastOf : List ℕ → Option (Bor (List ℕ)) → Type 0
+LastOf l o = MatchOption o (length l < 8) (λ y. (8 ≤ length l) × IsWholeChunk (drop (length l - 8) l) y.now 8)
+
+abbrev equal_chunks : Option (Bor (List ℕ)) → Option (Bor (List ℕ)) → Bool
+equal_chunks = option_eq (λ x y. pointwise eqb x.now y.now)
+
+pub other_first : (a b : List ℕ) (o p : Option (Bor (List ℕ))) (r : Bool) → FirstOf a o → FirstOf b p → r ≡ equal_chunks o p → r ≡ false → r ≡ same a b
+other_first a b None None r ea eb e f = absurd (false≢true (sym f ∙ e))
+other_first a b None (Some y) r ea eb e f = let l = eb.enough in f ∙ other_length a b (λ z. omega arith)
+other_first a b (Some x) None r ea eb e f = let l = ea.enough in f ∙ other_length a b (λ z. omega arith)
+other_first a b (Some x) (Some y) r ea eb e f =
+    f ∙ apart a b (λ z. false≢true (sym f ∙ e ∙ (bytes_decides x.now y.now).1 (ea.same ∙ ap (take 8) z ∙ sym eb.same)))
+
+pub other_last : (a b : List ℕ) (o p : Option (Bor (List ℕ))) (r : Bool) → LastOf a o → LastOf b p → r ≡ equal_chunks o p → r ≡ false → r ≡ same a b
+other_last a b None None r ea eb e f = absurd (false≢true (sym f ∙ e))
+other_last a b None (Some y) r ea eb e f = f ∙ other_length a b (λ z. omega arith)
+other_last a b (Some x) None r ea eb e f = f ∙ other_length a b (λ z. omega arith)
+other_last a b (Some x) (Some y) r ea eb e f =
+    f ∙ apart a b (λ z. false≢true (sym f ∙ e ∙ (bytes_decides x.now y.now).1 (ea.1.same ∙ ap (λ (l : List ℕ). drop (length l - 8) l) z ∙ sym eb.1.same)))
 
 -- no name, of the five tags
 not_named : (k : Cell) → (k.tag ≡ 2 → ⊥) → (k.tag ≡ 3 → ⊥) → named (state_of k) ≡ false
@@ -177,6 +174,3 @@ unfolding cell_at
 holds_by_name w i b m o x a hb l h ex eo =
     let e : a + x - a ≡ min (get_or w (cell_base i + 2) 0) 255 = omega arith in
     by_name (cell_at w i) (part a 255 b) m o l h (eo ∙ ap (λ (y : List ℕ). same y m) (ap (λ (y : ℕ). part a y b) e ∙ sym (room_take a (get_or w (cell_base i + 2) 0) b hb)))
-
-pub waiting_is : (σ : State) (k : Connection) → σ ≡ Connected k → not (eqb k.waits 0) ≡ waiting σ
-waiting_is σ k e = rw e

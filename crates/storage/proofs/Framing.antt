@@ -64,19 +64,19 @@ module _ (n c : ℕ) (w b t : List ℕ) (f : Roomy n c (lent w b t)) where
   cell_end : (j : ℕ) → j < n → (cell_base j + 16 ≤ 8 + 16 * n) × (cell_base j + 16 ≤ length w)
   cell_end j h = let z = f.words in (omega arith, omega arith)
 
-  places_end : (j : ℕ) → j < n → (places_base n j + 256 ≤ 8 + 272 * n) × (places_base n j + 256 ≤ length w)
+  pub places_end : (j : ℕ) → j < n → (places_base n j + 256 ≤ 8 + 272 * n) × (places_base n j + 256 ≤ length w)
   places_end j h = let z = f.words in (omega arith, omega arith)
 
   queue_end : (j : ℕ) → j < n → queue_base n j + n ≤ length w
   queue_end j h = let z = f.words in let y = row_before n j n h in omega arith
 
-  ring_end : (j : ℕ) → j < n → (ring_base c j + c ≤ c * n) × (ring_base c j + c ≤ length b)
+  pub ring_end : (j : ℕ) → j < n → (ring_base c j + c ≤ c * n) × (ring_base c j + c ≤ length b)
   ring_end j h = let z = f.bytes in let y = row_before c j n h in (omega arith, omega arith)
 
   room_end : (j : ℕ) → j < n → name_base n c j + 255 ≤ length b
   room_end j h = let z = f.bytes in omega arith
 
-  tokens_end : (j : ℕ) → j < n → tokens_base j + 256 ≤ length t
+  pub tokens_end : (j : ℕ) → j < n → tokens_base j + 256 ≤ length t
   tokens_end j h = let z = f.tokens in omega arith
 
   -- ── In words ──

@@ -1,10 +1,8 @@
 pub mod Coding
 pub mod Strides
 pub mod Pasted
-pub mod Fours
 pub mod Framing
 pub mod Finds
-pub mod Rooms
 pub mod Lending
 pub mod Around
 pub mod Viewed

@@ -3,7 +3,6 @@ use Rattle.std.specs.Prelude.{ℕ, suc, ◌+◌, Bool, cond, not, List, [], ◌�
 use Rattle.inbox.specs.declared.Inbox.{Inbox}
 use Rattle.storage.specs.Layout.{cell_base}
 use Rattle.storage.specs.declared.Cell.{Cell}
-use Rattle.storage.specs.declared.Four.{Four}
 use Rattle.storage.specs.declared.Listener.{Listener}
 use Rattle.storage.specs.declared.Connection.{Connection}
 use Rattle.storage.specs.declared.State.{State}
@@ -43,14 +42,6 @@ puts l b k (v ∷ vs) = puts (set l (b + k) v) b (suc k) vs
 
 unfoldable pub store_at : List ℕ → ℕ → Cell → List ℕ
 store_at w i k = puts w (cell_base i) 0 (words_of k)
-
--- four words
-abbrev pub four_at : List ℕ → ℕ → Four
-four_at l p = record { a = get_or l p 0; b = get_or l (p + 1) 0; c = get_or l (p + 2) 0; d = get_or l (p + 3) 0 }
-
--- .. stored from b + k on
-abbrev pub put_four : List ℕ → ℕ → ℕ → Four → List ℕ
-put_four l b k f = set (set (set (set l (b + (k + 0)) f.a) (b + (k + 1)) f.b) (b + (k + 2)) f.c) (b + (k + 3)) f.d
 
 -- ── The state that a cell says ──
 

@@ -1,5 +1,5 @@
 -- Handles, free slots and names, as the words and the name rooms tell them. proofs/Found.antt shows that the table of `view` says the same.
-use Rattle.std.specs.Prelude.{ℕ, zero, suc, Bool, true, false, cond, not, ◌&&◌, List, eqb, ltb, take}
+use Rattle.std.specs.Prelude.{ℕ, zero, suc, Bool, true, false, cond, not, ◌&&◌, Option, Some, None, List, eqb, ltb, take}
 use Rattle.rules.specs.Table.{slot_of, handle, same}
 use Rattle.storage.specs.Cells.{cell_at, state_of}
 use Rattle.storage.specs.declared.Cell.{Cell}
@@ -10,6 +10,10 @@ use Rattle.storage.specs.declared.State.TheVariants.{Closed, Unbound, Bound, Lis
 unfoldable pub least : ℕ → (ℕ → Bool) → ℕ
 least zero p = zero
 least (suc n) p = cond (p zero) zero (suc (least n (λ k. p (suc k))))
+
+-- .. or none
+unfoldable pub lowest : ℕ → (ℕ → Bool) → Option ℕ
+lowest n p = cond (ltb (least n p) n) (Some (least n p)) None
 
 -- ── Slots ──
 

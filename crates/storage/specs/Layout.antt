@@ -7,7 +7,7 @@
 --   bytes    c bytes a slot: the ring of its inbox
 --            255 bytes a slot: the room of its name
 --   tokens   256 a slot: the queued items
-use Rattle.std.specs.Prelude.{ℕ, ◌+◌, ◌*◌, List, take, drop}
+use Rattle.std.specs.Prelude.{ℕ, ◌+◌, ◌*◌, ◌≤◌, List, length, take, drop}
 use Rattle.storage.specs.declared.Sizes.{Sizes}
 
 -- k elements from a on
@@ -49,3 +49,21 @@ sizes_of n c =
       wakes = n + 1;
       releases = 256 * n;
     }
+
+-- ── What lent slices have room for ──
+
+-- the words of slot i
+abbrev pub HasSlot : ℕ → List ℕ → Type 0
+HasSlot i words = 8 + 16 * i + 16 ≤ length words
+
+-- the words of n slots
+abbrev pub HasSlots : ℕ → List ℕ → Type 0
+HasSlots n words = 8 + 16 * n ≤ length words
+
+-- all that n slots have in words
+abbrev pub HasRows : ℕ → List ℕ → Type 0
+HasRows n words = 8 + 272 * n + n * n ≤ length words
+
+-- all that n slots of capacity c have in bytes
+abbrev pub HasNames : ℕ → ℕ → List ℕ → Type 0
+HasNames n c bytes = c * n + 255 * n ≤ length bytes

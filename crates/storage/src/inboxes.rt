@@ -3,7 +3,7 @@ ghost use Rattle.std.specs.Prelude.{◌≡◌, ◌+◌, ◌*◌, ◌≤◌, ◌<
 ghost use Rattle.inbox.specs.View.{count};
 ghost use Rattle.inbox.specs.Well.{is_well, Well};
 ghost use Rattle.inbox.specs.Promise.{MayPush, policy_of, Takes, Discards};
-ghost use Rattle.storage.specs.Layout.{part, places_base, ring_base, tokens_base};
+ghost use Rattle.storage.specs.Layout.{part, places_base, ring_base, tokens_base, HasRows};
 ghost use Rattle.storage.specs.Rows.{lent, Roomy};
 ghost use Rattle.storage.specs.Inboxes.{PushesAt};
 
@@ -11,7 +11,7 @@ use inbox::{AttachedItems, Discarded, Inbox, Pushed, Taken};
 
 // The check of the inbox of slot `i`.
 pub fn is_well(words: &[u64], n: usize, c: usize, i: usize, inbox: Inbox) -> bool
-    requires { (i < n) × (8 + 272 * n + n * n ≤ length words.now) }
+    requires { (i < n) × HasRows n words.now }
     ensures { result ≡ is_well c (part (places_base n i) 256 words.now) inbox }
 {
     let p = 8 + 16 * n + 256 * i;

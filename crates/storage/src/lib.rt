@@ -6,16 +6,16 @@ pub mod inboxes;
 pub mod names;
 pub mod queues;
 
-ghost use Rattle.std.specs.Prelude.{◌≡◌, ◌+◌, ◌*◌, ◌≤◌, length};
-ghost use Rattle.storage.specs.Layout.{sizes_of};
-ghost use Rattle.storage.specs.Cells.{four_at, put_four, cell_at, store_at, state_of, cell_of, listener_of, connection_of, plain_cell, listening_cell, connected_cell, with_inbox};
+ghost use Rattle.std.specs.Prelude.{◌≡◌, ◌≤◌};
+ghost use Rattle.storage.specs.Layout.{sizes_of, HasSlot};
+ghost use Rattle.storage.specs.Cells.{cell_at, store_at, state_of, cell_of, plain_cell, with_inbox};
 ghost use Rattle.storage.specs.declared.State.TheVariants.{Connected};
 
 use inbox::Inbox;
 use words::Handle;
 
 // The least lengths of what a host lends.
-#[derive(Clone, Copy)]
+#[derive(Clone, Copy, Debug, PartialEq, Eq)]
 pub struct Sizes {
     pub words: usize,
     pub bytes: usize,
@@ -25,7 +25,7 @@ pub struct Sizes {
 }
 
 // A slot's sixteen words.
-#[derive(Clone, Copy)]
+#[derive(Clone, Copy, Debug, Default, PartialEq, Eq)]
 pub struct Cell {
     pub generation: u64,
     pub tag: u64,
@@ -47,7 +47,7 @@ pub struct Cell {
 
 // A listening socket: the length of its name, its backlog, and where its pending servers stand in
 // its ring of handles.
-#[derive(Clone, Copy)]
+#[derive(Clone, Copy, Debug, PartialEq, Eq)]
 pub struct Listener {
     pub name: usize,
     pub backlog: u64,
@@ -84,6 +84,7 @@ pub struct Slot {
 }
 
 // The least sizes for `n` slots of capacity `c`.
+#[tactic(auto, using(crate::proofs::Strides::square, crate::proofs::Strides::area))]
 pub fn least_sizes(n: usize, c: usize) -> Sizes
     requires { (n ≤ 1024) × (c ≤ 65536) }
     ensures { result ≡ sizes_of n c }
@@ -98,21 +99,21 @@ pub fn least_sizes(n: usize, c: usize) -> Sizes
 }
 
 pub fn load(words: &[u64], i: usize) -> Slot
-    requires { 8 + 16 * i + 16 ≤ length words.now }
+    requires { HasSlot i words.now }
     ensures { result ≡ record { generation = (cell_at words.now i).generation; state = state_of (cell_at words.now i) } }
 {
     let cell = load_cell(words, i);
     Slot {
         generation: cell.generation,
-        state: decode(cell),
+        state: cell.into(),
     }
 }
 
 pub fn store(words: &mut [u64], i: usize, slot: Slot)
-    requires { 8 + 16 * i + 16 ≤ length words.old }
+    requires { HasSlot i words.old }
     ensures { words.new ≡ store_at words.old i (cell_of slot.generation slot.state) }
 {
-    store_cell(words, i, encode(slot));
+    store_cell(words, i, slot.into());
 }
 
 // A connection with another inbox, into slot `i`.
@@ -123,262 +124,176 @@ pub fn store_inbox(
     connection: Connection,
     inbox: Inbox,
 )
-    requires { 8 + 16 * i + 16 ≤ length words.old }
+    requires { HasSlot i words.old }
     ensures { words.new ≡ store_at words.old i (cell_of generation (Connected (with_inbox connection inbox))) }
 {
-    let peer = connection.peer;
     let state = State::Connected(Connection {
-        peer,
         inbox,
-        inbox_closed: connection.inbox_closed,
-        outbox_closed: connection.outbox_closed,
-        waits: connection.waits,
-        place: connection.place,
+        ..connection
     });
     store(words, i, Slot { generation, state });
 }
 
-// Four words of a slot.
-#[derive(Clone, Copy)]
-pub struct Four {
-    pub a: u64,
-    pub b: u64,
-    pub c: u64,
-    pub d: u64,
-}
-
-pub fn load_four(words: &[u64], at: usize) -> Four
-    requires { at + 4 ≤ length words.now }
-    ensures { result ≡ four_at words.now at }
-{
-    Four {
-        a: words[at],
-        b: words[at + 1],
-        c: words[at + 2],
-        d: words[at + 3],
-    }
-}
-
-fn store_four(words: &mut [u64], b: usize, k: usize, four: Four)
-    requires { b + (k + 4) ≤ length words.old }
-    ensures { words.new ≡ put_four words.old b k four }
-{
-    words[b + (k + 0)] = four.a;
-    words[b + (k + 1)] = four.b;
-    words[b + (k + 2)] = four.c;
-    words[b + (k + 3)] = four.d;
-}
-
+#[tactic(auto, unfolding(crate::specs::Cells::cell_at))]
 pub fn load_cell(words: &[u64], i: usize) -> Cell
-    requires { 8 + 16 * i + 16 ≤ length words.now }
+    requires { HasSlot i words.now }
     ensures { result ≡ cell_at words.now i }
 {
     let b = 8 + 16 * i;
-    let own = load_four(words, b + 0);
-    let queue = load_four(words, b + 4);
-    let pair = load_four(words, b + 8);
-    let rest = load_four(words, b + 12);
     Cell {
-        generation: own.a,
-        tag: own.b,
-        name: own.c,
-        backlog: own.d,
-        head: queue.a,
-        pending: queue.b,
-        peer: queue.c,
-        inbox_closed: queue.d,
-        outbox_closed: pair.a,
-        byte: pair.b,
-        written_total: pair.c,
-        read_total: pair.d,
-        first: rest.a,
-        items: rest.b,
-        waits: rest.c,
-        place: rest.d,
+        generation: words[b + 0],
+        tag: words[b + 1],
+        name: words[b + 2],
+        backlog: words[b + 3],
+        head: words[b + 4],
+        pending: words[b + 5],
+        peer: words[b + 6],
+        inbox_closed: words[b + 7],
+        outbox_closed: words[b + 8],
+        byte: words[b + 9],
+        written_total: words[b + 10],
+        read_total: words[b + 11],
+        first: words[b + 12],
+        items: words[b + 13],
+        waits: words[b + 14],
+        place: words[b + 15],
     }
 }
 
+// Stays: a store for each word. Tried, slower: `copy_from_slice` of an array of the words takes 15 ns, this 6.
+#[tactic(auto, unfolding(crate::specs::Cells::store_at))]
 fn store_cell(words: &mut [u64], i: usize, cell: Cell)
-    requires { 8 + 16 * i + 16 ≤ length words.old }
+    requires { HasSlot i words.old }
     ensures { words.new ≡ store_at words.old i cell }
 {
     let b = 8 + 16 * i;
-    store_four(
-        words,
-        b,
-        0,
-        Four {
-            a: cell.generation,
-            b: cell.tag,
-            c: cell.name,
-            d: cell.backlog,
-        },
-    );
-    store_four(
-        words,
-        b,
-        4,
-        Four {
-            a: cell.head,
-            b: cell.pending,
-            c: cell.peer,
-            d: cell.inbox_closed,
-        },
-    );
-    store_four(
-        words,
-        b,
-        8,
-        Four {
-            a: cell.outbox_closed,
-            b: cell.byte,
-            c: cell.written_total,
-            d: cell.read_total,
-        },
-    );
-    store_four(
-        words,
-        b,
-        12,
-        Four {
-            a: cell.first,
-            b: cell.items,
-            c: cell.waits,
-            d: cell.place,
-        },
-    );
+    words[b + 0] = cell.generation;
+    words[b + 1] = cell.tag;
+    words[b + 2] = cell.name;
+    words[b + 3] = cell.backlog;
+    words[b + 4] = cell.head;
+    words[b + 5] = cell.pending;
+    words[b + 6] = cell.peer;
+    words[b + 7] = cell.inbox_closed;
+    words[b + 8] = cell.outbox_closed;
+    words[b + 9] = cell.byte;
+    words[b + 10] = cell.written_total;
+    words[b + 11] = cell.read_total;
+    words[b + 12] = cell.first;
+    words[b + 13] = cell.items;
+    words[b + 14] = cell.waits;
+    words[b + 15] = cell.place;
 }
 
 // What a cell says; a tag that no state has is read as closed.
-pub fn decode(cell: Cell) -> State
-    ensures { result ≡ state_of cell }
-{
-    if cell.tag == 1 {
-        return State::Unbound;
-    }
-    if cell.tag == 2 {
-        return State::Bound(cell.name as usize);
-    }
-    if cell.tag == 3 {
-        return State::Listening(listener_of(cell));
-    }
-    if cell.tag == 4 {
-        return State::Connected(connection_of(cell));
-    }
-    State::Closed
-}
+impl From<Cell> for State {
+    ghost use Rattle.std.specs.Prelude.{◌≡◌};
+    ghost use Rattle.storage.specs.Cells.{state_of};
 
-pub fn listener_of(cell: Cell) -> Listener
-    ensures { result ≡ listener_of cell }
-{
-    Listener {
-        name: cell.name as usize,
-        backlog: cell.backlog,
-        head: cell.head as usize,
-        pending: cell.pending as usize,
+    ghost from_gives = { λ cell state. state ≡ state_of cell };
+
+    #[tactic(auto, unfolding(crate::specs::Cells::state_of))]
+    fn from(cell: Cell) -> State {
+        match cell.tag {
+            1 => State::Unbound,
+            2 => State::Bound(cell.name as usize),
+            3 => State::Listening(cell.into()),
+            4 => State::Connected(cell.into()),
+            _ => State::Closed,
+        }
     }
 }
 
-pub fn connection_of(cell: Cell) -> Connection
-    ensures { result ≡ connection_of cell }
+impl From<Cell> for Listener {
+    ghost use Rattle.std.specs.Prelude.{◌≡◌};
+    ghost use Rattle.storage.specs.Cells.{listener_of};
+
+    ghost from_gives = { λ cell listener. listener ≡ listener_of cell };
+
+    fn from(cell: Cell) -> Listener {
+        Listener {
+            name: cell.name as usize,
+            backlog: cell.backlog,
+            head: cell.head as usize,
+            pending: cell.pending as usize,
+        }
+    }
+}
+
+impl From<Cell> for Connection {
+    ghost use Rattle.std.specs.Prelude.{◌≡◌};
+    ghost use Rattle.storage.specs.Cells.{connection_of};
+
+    ghost from_gives = { λ cell connection. connection ≡ connection_of cell };
+
+    fn from(cell: Cell) -> Connection {
+        Connection {
+            peer: Handle(cell.peer),
+            inbox: Inbox {
+                head: cell.byte as usize,
+                written_total: cell.written_total,
+                read_total: cell.read_total,
+                first: cell.first as usize,
+                items: cell.items as usize,
+            },
+            inbox_closed: cell.inbox_closed != 0,
+            outbox_closed: cell.outbox_closed != 0,
+            waits: cell.waits as usize,
+            place: cell.place as usize,
+        }
+    }
+}
+
+// A slot with no socket: all but its generation is 0.
+fn closed(generation: u64) -> Cell
+    ensures { result ≡ plain_cell generation 0 0 }
 {
-    Connection {
-        peer: Handle(cell.peer),
-        inbox: Inbox {
-            head: cell.byte as usize,
-            written_total: cell.written_total,
-            read_total: cell.read_total,
-            first: cell.first as usize,
-            items: cell.items as usize,
-        },
-        inbox_closed: cell.inbox_closed != 0,
-        outbox_closed: cell.outbox_closed != 0,
-        waits: cell.waits as usize,
-        place: cell.place as usize,
+    Cell {
+        generation,
+        ..Cell::default()
     }
 }
 
 // The words of a slot: a field that its state does not have is 0.
-fn encode(slot: Slot) -> Cell
-    ensures { result ≡ cell_of slot.generation slot.state }
-{
-    let state = slot.state;
-    match state {
-        State::Closed => plain(slot.generation, 0, 0),
-        State::Unbound => plain(slot.generation, 1, 0),
-        State::Bound(name) => plain(slot.generation, 2, name),
-        State::Listening(listener) => listening(slot.generation, listener),
-        State::Connected(connection) => connected(slot.generation, connection),
-    }
-}
+impl From<Slot> for Cell {
+    ghost use Rattle.std.specs.Prelude.{◌≡◌};
+    ghost use Rattle.storage.specs.Cells.{cell_of};
 
-// A slot with no more than a name.
-fn plain(generation: u64, tag: u64, name: usize) -> Cell
-    ensures { result ≡ plain_cell generation tag name }
-{
-    Cell {
-        generation,
-        tag,
-        name: name as u64,
-        backlog: 0,
-        head: 0,
-        pending: 0,
-        peer: 0,
-        inbox_closed: 0,
-        outbox_closed: 0,
-        byte: 0,
-        written_total: 0,
-        read_total: 0,
-        first: 0,
-        items: 0,
-        waits: 0,
-        place: 0,
-    }
-}
+    ghost from_gives = { λ slot cell. cell ≡ cell_of slot.generation slot.state };
 
-fn listening(generation: u64, listener: Listener) -> Cell
-    ensures { result ≡ listening_cell generation listener }
-{
-    Cell {
-        generation,
-        tag: 3,
-        name: listener.name as u64,
-        backlog: listener.backlog,
-        head: listener.head as u64,
-        pending: listener.pending as u64,
-        peer: 0,
-        inbox_closed: 0,
-        outbox_closed: 0,
-        byte: 0,
-        written_total: 0,
-        read_total: 0,
-        first: 0,
-        items: 0,
-        waits: 0,
-        place: 0,
-    }
-}
-
-fn connected(generation: u64, connection: Connection) -> Cell
-    ensures { result ≡ connected_cell generation connection }
-{
-    let inbox = connection.inbox;
-    Cell {
-        generation,
-        tag: 4,
-        name: 0,
-        backlog: 0,
-        head: 0,
-        pending: 0,
-        peer: connection.peer.0,
-        inbox_closed: connection.inbox_closed as u64,
-        outbox_closed: connection.outbox_closed as u64,
-        byte: inbox.head as u64,
-        written_total: inbox.written_total,
-        read_total: inbox.read_total,
-        first: inbox.first as u64,
-        items: inbox.items as u64,
-        waits: connection.waits as u64,
-        place: connection.place as u64,
+    #[tactic(auto, unfolding(crate::specs::Cells::cell_of))]
+    fn from(slot: Slot) -> Cell {
+        let closed = closed(slot.generation);
+        match slot.state {
+            State::Closed => closed,
+            State::Unbound => Cell { tag: 1, ..closed },
+            State::Bound(name) => Cell {
+                tag: 2,
+                name: name as u64,
+                ..closed
+            },
+            State::Listening(listener) => Cell {
+                tag: 3,
+                name: listener.name as u64,
+                backlog: listener.backlog,
+                head: listener.head as u64,
+                pending: listener.pending as u64,
+                ..closed
+            },
+            State::Connected(connection) => Cell {
+                tag: 4,
+                peer: connection.peer.0,
+                inbox_closed: connection.inbox_closed as u64,
+                outbox_closed: connection.outbox_closed as u64,
+                byte: connection.inbox.head as u64,
+                written_total: connection.inbox.written_total,
+                read_total: connection.inbox.read_total,
+                first: connection.inbox.first as u64,
+                items: connection.inbox.items as u64,
+                waits: connection.waits as u64,
+                place: connection.place as u64,
+                ..closed
+            },
+        }
     }
 }

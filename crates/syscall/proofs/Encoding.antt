@@ -9,13 +9,12 @@ use lib.Dec.{ltb}
 use lib.IntN.{ℤ}
 use lib.ListN.{length, drop, length-append}
 use lib.Seq.{sets, sets-eq}
+use Rattle.std.specs.Prelude.{Result, Ok, Err}
 use Rattle.words.specs.declared.Errno.{Errno}
 use Rattle.words.specs.declared.Errno.TheVariants.{SHORT}
-use Rattle.words.specs.declared.Answer.{Answer}
 use Rattle.le.proofs.Widths.{sets-append}
 use Rattle.abi.specs.Size.{up8, rights, rights_of, rights_space_of}
 use Rattle.abi.specs.declared.CmsgHdr.{CmsgHdr}
-use Rattle.abi.specs.declared.Made.{Made}
 use Rattle.abi.proofs.Sizes.{up8_is, value, beyond}
 use Rattle.syscall.specs.Control.{header_bytes, descriptor_bytes, encoding, capacity_of}
 use Rattle.syscall.specs.Promise.{Encoded, encode_of, buffer_after}
@@ -31,7 +30,7 @@ room n k h s = go (ltb n 16) refl h
     go false e l = omega (arith, ltb-false n 16 e)
 
 -- the two definitions at a list that is not empty
-pub answer_some : (ds : List ℤ) (b : List ℕ) → 1 ≤ length ds → encode_of ds b ≡ cond (ltb (capacity_of (length b)) (length ds)) (Answer.Refused SHORT) (Answer.Is (min (length b) (up8 (16 + 4 * length ds))))
+pub answer_some : (ds : List ℤ) (b : List ℕ) → 1 ≤ length ds → encode_of ds b ≡ cond (ltb (capacity_of (length b)) (length ds)) (Err SHORT) (Ok (min (length b) (up8 (16 + 4 * length ds))))
 unfolding encode_of
 answer_some [] b h = absurd (omega arith)
 answer_some (d ∷ ds) b h = refl
@@ -41,12 +40,12 @@ unfolding buffer_after
 buffer_some [] b h = absurd (omega arith)
 buffer_some (d ∷ ds) b h = refl
 
-pub none : (ds : List ℤ) (b : List ℕ) → length ds ≡ 0 → Encoded ds b b (Answer.Is 0)
+pub none : (ds : List ℤ) (b : List ℕ) → length ds ≡ 0 → Encoded ds b b (Ok 0)
 unfolding encode_of buffer_after
 none [] b h = record { answer = refl; bytes = refl }
 none (d ∷ ds) b h = absurd (omega arith)
 
-pub too_many : (ds : List ℤ) (b : List ℕ) (c : ℕ) → c ≡ capacity_of (length b) → c < length ds → Encoded ds b b (Answer.Refused SHORT)
+pub too_many : (ds : List ℤ) (b : List ℕ) (c : ℕ) → c ≡ capacity_of (length b) → c < length ds → Encoded ds b b (Err SHORT)
 too_many ds b c e h =
     let t = lt-ltb (capacity_of (length b)) (length ds) (omega arith) in
     record { answer = sym (answer_some ds b (omega arith) ∙ rw t); bytes = sym (buffer_some ds b (omega arith) ∙ rw t) }
@@ -56,21 +55,21 @@ module _ (ds : List ℤ) (b : List ℕ) (c : ℕ) (cap : c ≡ capacity_of (leng
   enough = room (length b) (length ds) (omega arith) (omega arith)
 
   -- neither the header nor its space is refused
-  pub header_held : length b < 2 ^ 63 → (m : Made) (x : Errno) (b' : List ℕ) (r : Answer) → m ≡ rights_of (length ds) → m ≡ Made.Refused x → Encoded ds b b' r
+  pub header_held : length b < 2 ^ 63 → (m : Result CmsgHdr Errno) (x : Errno) (b' : List ℕ) (r : Result ℕ Errno) → m ≡ rights_of (length ds) → m ≡ Err x → Encoded ds b b' r
   unfolding rights_of
   header_held l m x b' r p q =
       let e = enough in
       let t = lt-ltb (16 + 4 * length ds) (2 ^ 64) (omega arith) in
       absurd (let z : ◌≡◌ {A = ℕ} 0 1 = cc (rw t at p) in omega arith)
 
-  pub space_held : length b < 2 ^ 63 → (a : Answer) (x : Errno) (b' : List ℕ) (r : Answer) → a ≡ rights_space_of (length ds) → a ≡ Answer.Refused x → Encoded ds b b' r
+  pub space_held : length b < 2 ^ 63 → (a : Result ℕ Errno) (x : Errno) (b' : List ℕ) (r : Result ℕ Errno) → a ≡ rights_space_of (length ds) → a ≡ Err x → Encoded ds b b' r
   unfolding rights_space_of
   space_held l a x b' r p q =
       let e = enough in
       let g = beyond (16 + up8 (4 * length ds)) x (sym q ∙ p) in
-      absurd (omega (arith, up8_is (4 * length ds)))
+      absurd (omega (arith, g.1, up8_is (4 * length ds)))
 
-  module _ (m : Made) (h : CmsgHdr) (made : m ≡ rights_of (length ds)) (is : m ≡ Made.Is h) (small : length b < 2 ^ 63) (b₁ b₂ : List ℕ)
+  module _ (m : Result CmsgHdr Errno) (h : CmsgHdr) (made : m ≡ rights_of (length ds)) (is : m ≡ Ok h) (small : length b < 2 ^ 63) (b₁ b₂ : List ℕ)
       (header : b₁ ≡ sets b 0 (header_bytes h)) (rest : b₂ ≡ sets b₁ 16 (descriptor_bytes ds)) where
     header_is : h ≡ rights (16 + 4 * length ds)
     unfolding rights_of
@@ -90,18 +89,15 @@ module _ (ds : List ℤ) (b : List ℕ) (c : ℕ) (cap : c ≡ capacity_of (leng
         ∙ sym (sets-append H (descriptor_bytes ds) b 0) ∙ sets-eq (H ++ descriptor_bytes ds) b 0 (omega arith)
         ∙ ap₂ (λ (x : CmsgHdr) (k : ℕ). header_bytes x ++ descriptor_bytes ds ++ drop k b) header_is w
 
-    done : (r : ℕ) → r ≡ min (length b) (up8 (16 + 4 * length ds)) → Encoded ds b b₂ (Answer.Is r)
+    done : (r : ℕ) → r ≡ min (length b) (up8 (16 + 4 * length ds)) → Encoded ds b b₂ (Ok r)
     done r e =
         let t = le-ltb (capacity_of (length b)) (length ds) (omega arith) in
-        record { answer = ap Answer.Is e ∙ sym (answer_some ds b (omega arith) ∙ rw t); bytes = written ∙ sym (buffer_some ds b (omega arith) ∙ rw t) }
+        record { answer = ap Ok e ∙ sym (answer_some ds b (omega arith) ∙ rw t); bytes = written ∙ sym (buffer_some ds b (omega arith) ∙ rw t) }
 
-    module _ (a : Answer) (s : ℕ) (asked : a ≡ rights_space_of (length ds)) (told : a ≡ Answer.Is s) where
+    module _ (a : Result ℕ Errno) (s : ℕ) (asked : a ≡ rights_space_of (length ds)) (told : a ≡ Ok s) where
       space_is : s ≡ up8 (16 + 4 * length ds)
       unfolding rights_space_of
       space_is = let v = value (16 + up8 (4 * length ds)) s (sym told ∙ asked) in omega (arith, up8_is (4 * length ds), up8_is (16 + 4 * length ds))
 
-      pub to_the_end : length b < s → Encoded ds b b₂ (Answer.Is (length b))
-      to_the_end l = let e = space_is in done (length b) (omega arith)
-
-      pub padded : s ≤ length b → Encoded ds b b₂ (Answer.Is s)
-      padded l = let e = space_is in done s (omega arith)
+      pub lesser : (r : ℕ) → r ≡ min s (length b) → Encoded ds b b₂ (Ok r)
+      lesser r l = let e = space_is in done r (omega arith)

@@ -5,7 +5,7 @@ use Prim.Native.Nat.{ℕ}
 use lib.IntN.{ℤ}
 use lib.ListN.{length}
 use Rattle.laws.specs.All.{All}
-use Rattle.words.specs.Numbers.{answer_no, answer_value}
+use Rattle.words.specs.Numbers.{refusal_of, answer_value}
 use Rattle.abi.specs.Size.{first_from, up8}
 use Rattle.syscall.specs.Control.{capacity_of}
 use Rattle.syscall.specs.Promise.{encode_of}
@@ -18,7 +18,7 @@ pub record Line : Type 0 where
 
 -- of every descriptor, and every buffer of that size
 abbrev pub Right : Line → Type 0
-Right l = (d : ℤ) (b : List ℕ) → length b ≡ l.size → (answer_no (encode_of (d ∷ []) b) ≡ l.no) × (answer_value (encode_of (d ∷ []) b) ≡ l.answer)
+Right l = (d : ℤ) (b : List ℕ) → length b ≡ l.size → (refusal_of (encode_of (d ∷ []) b) ≡ l.no) × (answer_value (encode_of (d ∷ []) b) ≡ l.answer)
 
 -- "one descriptor into 20 bytes answers 20; into 24 or 32: 24; into 19: 18"
 abbrev pub lines : List Line

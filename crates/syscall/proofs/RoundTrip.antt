@@ -12,15 +12,14 @@ use lib.Seq.{take-append-add, take-add, drop-drop}
 use mir.Syntax.{w32}
 use mir.Val.{to_z, of_z, SFits}
 use mir.ValLaws.{to_z-of_z, of_z-to_z, of_z_fits}
+use Rattle.std.specs.Prelude.{Option, Some, None, Ok}
 use Rattle.laws.specs.All.{All}
 use Rattle.words.specs.Integers.{equals}
 use Rattle.words.specs.declared.Errno.TheVariants.{EINVAL}
-use Rattle.words.specs.declared.Answer.{Answer}
 use Rattle.le.specs.Le.{le, bytes}
 use Rattle.le.proofs.Widths.{length-bytes, le_at, AreBytes, le_fits, bytes_le}
 use Rattle.abi.specs.Size.{up8, rights, rights_count_of}
 use Rattle.abi.specs.declared.CmsgHdr.{CmsgHdr}
-use Rattle.abi.specs.declared.Count.{Count}
 use Rattle.abi.proofs.Sizes.{up8_is}
 use Rattle.abi.proofs.Headers.{Counted, count_says}
 use Rattle.syscall.specs.Control.{Control, header_at, descriptors_at, counted, meaning, header_bytes, descriptor_bytes, encoding, capacity_of}
@@ -66,12 +65,12 @@ all_back ds s f =
     let h = header_bytes (rights (16 + 4 * length ds)) in
     ap (λ (l : List ℕ). descriptors_at (length ds) l 16) (append_assoc h (descriptor_bytes ds) s) ∙ descriptors-at ds h s 16 f (length-header (rights (16 + 4 * length ds)))
 
-count_back : (k n : ℕ) → 16 + 4 * k ≤ n → rights_count_of (rights (16 + 4 * k)) n ≡ Count.Of k
+count_back : (k n : ℕ) → 16 + 4 * k ≤ n → rights_count_of (rights (16 + 4 * k)) n ≡ Some k
 unfolding rights_count_of equals
 count_back k n h =
     let whole : (16 + 4 * k - 16) % 4 ≡ 0 = omega arith in
     let is : (16 + 4 * k - 16) / 4 ≡ k = omega arith in
-    rw (le-ltb n (16 + 4 * k) h, le-ltb (16 + 4 * k) 16 (omega arith), eq-eqb ((16 + 4 * k - 16) % 4) 0 whole) (ap Count.Of is)
+    rw (le-ltb n (16 + 4 * k) h, le-ltb (16 + 4 * k) 16 (omega arith), eq-eqb ((16 + 4 * k - 16) % 4) 0 whole) (ap Some is)
 
 length-encoding : (ds : List ℤ) → length (encoding ds) ≡ 16 + 4 * length ds
 unfolding encoding
@@ -86,11 +85,11 @@ encoding_back ds s f h =
     let c = encoding ds ++ s in
     let n : length c ≡ 16 + 4 * length ds + length s = omega (arith, length-append (encoding ds) s, length-encoding ds) in
     let long : 16 ≤ length c = omega arith in
-    let told : rights_count_of (header_at c) (length c) ≡ Count.Of (length ds) = ap (λ (x : CmsgHdr). rights_count_of x (length c)) (header_back ds s h) ∙ count_back (length ds) (length c) (omega arith) in
+    let told : rights_count_of (header_at c) (length c) ≡ Some (length ds) = ap (λ (x : CmsgHdr). rights_count_of x (length c)) (header_back ds s h) ∙ count_back (length ds) (length c) (omega arith) in
     rw (ne_eqb (length c) 0 (λ e. omega arith), le-ltb (length c) 16 long, told) (ap Control.descriptors (all_back ds s f))
 
 -- "parsing that many bytes returns the k": the first bytes of the buffer, as many as the encoder answered
-back_some : (ds : List ℤ) (b : List ℕ) (r : ℕ) → 1 ≤ length ds → AreDescriptors ds → length b < 2 ^ 63 → length ds ≤ capacity_of (length b) → encode_of ds b ≡ Answer.Is r
+back_some : (ds : List ℤ) (b : List ℕ) (r : ℕ) → 1 ≤ length ds → AreDescriptors ds → length b < 2 ^ 63 → length ds ≤ capacity_of (length b) → encode_of ds b ≡ Ok r
     → meaning (take r (buffer_after ds b)) ≡ Control.descriptors ds
 back_some ds b r some f small fits e =
     let n = 16 + 4 * length ds in
@@ -103,7 +102,7 @@ back_some ds b r some f small fits e =
     ap (λ (k : ℕ). take k (encoding ds ++ drop n b)) enough ∙ take-append-add (encoding ds) (drop n b) (r - n) in
     ap (λ (l : List ℕ). meaning (take r l)) buffer ∙ ap meaning first ∙ encoding_back ds (take (r - n) (drop n b)) f (omega arith)
 
-pub back : (ds : List ℤ) (b : List ℕ) (r : ℕ) → AreDescriptors ds → length b < 2 ^ 63 → length ds ≤ capacity_of (length b) → encode_of ds b ≡ Answer.Is r
+pub back : (ds : List ℤ) (b : List ℕ) (r : ℕ) → AreDescriptors ds → length b < 2 ^ 63 → length ds ≤ capacity_of (length b) → encode_of ds b ≡ Ok r
     → meaning (take r (buffer_after ds b)) ≡ Control.descriptors ds
 unfolding encode_of buffer_after meaning
 back [] b r f small fits e = let z : r ≡ 0 = cc in rw z
@@ -155,11 +154,11 @@ module _ (b : List ℕ) (are : AreBytes b) where
   unfolding meaning counted
   says ds some e = go (ltb (length b) 16) refl (rights_count_of (header_at b) (length b)) refl (rw (ne_eqb (length b) 0 some) at e)
     where
-      go : (t : Bool) → ltb (length b) 16 ≡ t → (c : Count) → rights_count_of (header_at b) (length b) ≡ c
+      go : (t : Bool) → ltb (length b) 16 ≡ t → (c : Option ℕ) → rights_count_of (header_at b) (length b) ≡ c
           → cond t (Control.refused EINVAL) (counted c b) ≡ Control.descriptors ds → encoding ds ≡ take (16 + 4 * length ds) b
       go true p c q r = absurd (let z : ◌≡◌ {A = ℕ} 0 1 = cc in omega arith)
-      go false p Count.None q r = absurd (let z : ◌≡◌ {A = ℕ} 0 1 = cc in omega arith)
-      go false p (Count.Of k) q r =
+      go false p None q r = absurd (let z : ◌≡◌ {A = ℕ} 0 1 = cc in omega arith)
+      go false p (Some k) q r =
           let is : descriptors_at k b 16 ≡ ds = cc in
           let n : length ds ≡ k = ap length (sym is) ∙ length-descriptors_at k b 16 in
           ap encoding (sym is) ∙ encodes k (ltb-false (length b) 16 p) (count_says (header_at b) (length b) k (sym q)) ∙ ap (λ (m : ℕ). take (16 + 4 * m) b) (sym n)

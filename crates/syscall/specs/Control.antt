@@ -1,5 +1,5 @@
 -- Document 01, "Addresses and control bytes", second paragraph, and POSIX's CMSG layout: a control buffer as bytes at places.
-use Rattle.std.specs.Prelude.{cond, List, [], ◌∷◌, ◌++◌, ℕ, zero, suc, ◌+◌, ◌-◌, ◌*◌, ◌/◌, ltb, eqb, ℤ, length}
+use Rattle.std.specs.Prelude.{cond, List, [], ◌∷◌, ◌++◌, ℕ, zero, suc, ◌+◌, ◌-◌, ◌*◌, ◌/◌, ltb, eqb, ℤ, length, Option, Some, None}
 use Rattle.std.specs.Int.{w32}
 use Rattle.std.proofs.Common.{to_z, of_z}
 use Rattle.words.specs.declared.Errno.{Errno}
@@ -7,7 +7,6 @@ use Rattle.words.specs.declared.Errno.TheVariants.{EINVAL}
 use Rattle.le.specs.Le.{le, bytes}
 use Rattle.abi.specs.Size.{rights, rights_count_of}
 use Rattle.abi.specs.declared.CmsgHdr.{CmsgHdr}
-use Rattle.abi.specs.declared.Count.{Count}
 
 -- ── What a buffer means ──
 
@@ -25,9 +24,9 @@ pub data Control : Type 0 where
   descriptors : List ℤ → Control
   refused : Errno → Control
 
-unfoldable pub counted : Count → List ℕ → Control
-counted (Count.Of k) b = descriptors (descriptors_at k b 16)
-counted Count.None b = refused EINVAL
+unfoldable pub counted : Option ℕ → List ℕ → Control
+counted (Some k) b = descriptors (descriptors_at k b 16)
+counted None b = refused EINVAL
 
 -- "Empty control: no descriptors. Below 16 bytes, another level or type, length above the buffer, below 16, or length - 16 no multiple of 4: 2. Bytes
 -- after the first header's data are ignored." The header's own rules are `abi`'s `rights_count_of`; "i32 descriptors from 16".

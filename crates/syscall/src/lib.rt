@@ -11,65 +11,65 @@ ghost use Rattle.syscall.specs.Arguments.{socket_of};
 ghost use Rattle.syscall.specs.Control.{header_at, descriptors_at, header_bytes, descriptor_bytes, capacity_of};
 ghost use Rattle.syscall.specs.Promise.{Parsed, Encoded, SendParsed, recv_capacity_of};
 
-use abi::{CmsgHdr, Count, Made};
-use words::{Answer, Descriptor, Errno, Verdict};
+use abi::CmsgHdr;
+use words::{Descriptor, Errno};
 
 // The checks of `sys_socket`, in its order.
-pub fn socket_refusal(domain: i32, ty: i32, protocol: i32) -> Verdict
+pub fn socket_refusal(domain: i32, ty: i32, protocol: i32) -> Result<(), Errno>
     ensures { result ≡ socket_of domain ty protocol }
 {
-    if domain != 1 {
-        return Verdict::Refused(Errno::EAFNOSUPPORT);
+    if domain != abi::AF_UNIX as i32 {
+        return Err(Errno::EAFNOSUPPORT);
     }
     if ty != abi::SOCK_STREAM {
-        return Verdict::Refused(Errno::EPROTOTYPE);
+        return Err(Errno::EPROTOTYPE);
     }
     if protocol != 0 {
-        return Verdict::Refused(Errno::EPROTONOSUPPORT);
+        return Err(Errno::EPROTONOSUPPORT);
     }
-    Verdict::Accepted
+    Ok(())
 }
 
 // What `sys_sendmsg` asks before the table call: the flags, then the control bytes.
-pub fn sendmsg_control(flags: i32, control: &[u8], fds: &mut [i32]) -> Answer
+pub fn sendmsg_control(flags: i32, control: &[u8], fds: &mut [i32]) -> Result<u64, Errno>
     ensures { SendParsed flags control.now fds.old fds.new result }
 {
     if flags != 0 {
-        return Answer::Refused(Errno::EOPNOTSUPP);
+        return Err(Errno::EOPNOTSUPP);
     }
     parse_scm_rights(control, fds)
 }
 
 // What `sys_recvmsg` asks before the table call: the flags, then how many descriptors fit.
-pub fn recvmsg_capacity(flags: i32, controllen: u64) -> Answer
+pub fn recvmsg_capacity(flags: i32, controllen: u64) -> Result<u64, Errno>
     ensures { result ≡ recv_capacity_of flags controllen }
 {
     if flags != 0 {
-        return Answer::Refused(Errno::EOPNOTSUPP);
+        return Err(Errno::EOPNOTSUPP);
     }
-    Answer::Is(scm_rights_capacity(controllen))
+    Ok(scm_rights_capacity(controllen))
 }
 
 // Bytes after the first header's data are ignored.
-pub fn parse_scm_rights(control: &[u8], fds: &mut [i32]) -> Answer
+pub fn parse_scm_rights(control: &[u8], fds: &mut [i32]) -> Result<u64, Errno>
     ensures { Parsed control.now fds.old fds.new result }
 {
-    if control.len() == 0 {
-        return Answer::Is(0);
+    if control.is_empty() {
+        return Ok(0);
     }
     if control.len() < 16 {
-        return Answer::Refused(Errno::EINVAL);
+        return Err(Errno::EINVAL);
     }
     let hdr = read_header(control);
-    let Count::Of(n) = hdr.scm_rights_count(control.len() as u64) else {
-        return Answer::Refused(Errno::EINVAL);
+    let Some(n) = hdr.scm_rights_count(control.len() as u64) else {
+        return Err(Errno::EINVAL);
     };
     if n > fds.len() as u64 {
-        return Answer::Refused(Errno::SHORT);
+        return Err(Errno::SHORT);
     }
     let end = hdr.cmsg_len as usize;
     read_descriptors(&control[16..end], fds);
-    Answer::Is(n)
+    Ok(n)
 }
 
 pub fn scm_rights_capacity(controllen: u64) -> u64
@@ -81,29 +81,22 @@ pub fn scm_rights_capacity(controllen: u64) -> u64
     (controllen - CmsgHdr::BYTES) / CmsgHdr::FD_BYTES
 }
 
-pub fn encode_scm_rights(fds: &[i32], control: &mut [u8]) -> Answer
+pub fn encode_scm_rights(fds: &[i32], control: &mut [u8]) -> Result<u64, Errno>
     ensures { Encoded fds.now control.old control.new result }
 {
     let n = fds.len() as u64;
     let room = control.len() as u64;
     if n > scm_rights_capacity(room) {
-        return Answer::Refused(Errno::SHORT);
+        return Err(Errno::SHORT);
     }
     if n == 0 {
-        return Answer::Is(0);
+        return Ok(0);
     }
-    let Made::Is(hdr) = CmsgHdr::scm_rights(n) else {
-        return Answer::Refused(Errno::SHORT);
-    };
-    let Answer::Is(space) = CmsgHdr::scm_rights_space(n) else {
-        return Answer::Refused(Errno::SHORT);
-    };
+    let hdr = CmsgHdr::scm_rights(n)?;
+    let space = CmsgHdr::scm_rights_space(n)?;
     write_header(control, hdr);
     write_descriptors(fds, control);
-    if room < space {
-        return Answer::Is(room);
-    }
-    Answer::Is(space)
+    Ok(space.min(room))
 }
 
 fn read_header(control: &[u8]) -> CmsgHdr
@@ -111,9 +104,9 @@ fn read_header(control: &[u8]) -> CmsgHdr
     ensures { result ≡ header_at control.now }
 {
     CmsgHdr {
-        cmsg_len: le::get_u64(control, 0),
-        cmsg_level: le::get_i32(control, 8),
-        cmsg_type: le::get_i32(control, 12),
+        cmsg_len: le::get(control, 0),
+        cmsg_level: le::get(control, 8),
+        cmsg_type: le::get(control, 12),
     }
 }
 
@@ -121,23 +114,23 @@ fn write_header(control: &mut [u8], hdr: CmsgHdr)
     requires { 16 ≤ length control.old }
     ensures { control.new ≡ sets control.old 0 (header_bytes hdr) }
 {
-    le::put_u64(control, 0, hdr.cmsg_len);
-    le::put_i32(control, 8, hdr.cmsg_level);
-    le::put_i32(control, 12, hdr.cmsg_type);
+    le::put(control, 0, hdr.cmsg_len);
+    le::put(control, 8, hdr.cmsg_level);
+    le::put(control, 12, hdr.cmsg_type);
 }
 
 fn read_descriptor(part: &[u8], at: usize) -> Descriptor
     requires { at + 4 ≤ length part.now }
     ensures { result.0 ≡ to_z w32 (le 4 part.now at) }
 {
-    Descriptor(le::get_i32(part, at))
+    Descriptor(le::get(part, at))
 }
 
 fn write_descriptor(control: &mut [u8], at: usize, fd: Descriptor)
     requires { at + 4 ≤ length control.old }
     ensures { control.new ≡ sets control.old at (bytes 4 (of_z w32 fd.0)) }
 {
-    le::put_i32(control, at, fd.number());
+    le::put(control, at, fd.number());
 }
 
 // One descriptor for every four bytes; the entries after them stay.
@@ -145,11 +138,8 @@ fn read_descriptors(part: &[u8], fds: &mut [i32])
     requires { length part.now / 4 ≤ length fds.old }
     ensures { fds.new ≡ descriptors_at (length part.now / 4) part.now 0 ++ drop (length part.now / 4) fds.old }
 {
-    let n = part.len() / 4;
-    let mut i = 0;
-    while i < n {
+    for i in 0..part.len() / 4 {
         fds[i] = read_descriptor(part, 4 * i).number();
-        i += 1;
     }
 }
 
@@ -157,9 +147,7 @@ fn write_descriptors(fds: &[i32], control: &mut [u8])
     requires { 16 + 4 * length fds.now ≤ length control.old }
     ensures { control.new ≡ sets control.old 16 (descriptor_bytes fds.now) }
 {
-    let mut i = 0;
-    while i < fds.len() {
+    for i in 0..fds.len() {
         write_descriptor(control, 16 + 4 * i, Descriptor(fds[i]));
-        i += 1;
     }
 }

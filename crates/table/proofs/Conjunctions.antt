@@ -1,11 +1,16 @@
 -- Tests made one after another: what each return says of them all together.
 use mathlib.Core.Path.{◌≡◌, refl, sym, ap, ◌∙◌}
-use mathlib.Core.Bool.{Bool, true, false, not, ◌&&◌, ◌||◌, false≢true}
+use mathlib.Core.Bool.{Bool, true, false, not, ◌&&◌, false≢true}
 use Prim.Native.Nat.{ℕ, ◌+◌, ◌≤◌, ◌<◌}
 use native.Mathlib.Nat.{not-suc-le-zero}
 use native.Mathlib.Decide.{dec_lt}
 use native.Mathlib.Omega.{arith}
+use lib.ListN.{length}
 use borrow.Author.Tests.{not-true, not-false}
+use Rattle.std.proofs.Common.{zero-add}
+use Rattle.std.specs.Bool.{MatchBool}
+use Rattle.std.specs.List.{range_with_len, AllWithin, HoldsAt}
+use Rattle.std.proofs.lemmas.List.FromFn.{length-range_with_len, get_or-range_with_len}
 use Rattle.rules.specs.WellFormed.{every}
 use Rattle.rules.proofs.YesNo.{every_at, at_every}
 
@@ -13,30 +18,12 @@ pub nope : (b : Bool) → (b ≡ true → ⊥) → false ≡ b
 nope true f = absurd (f refl)
 nope false f = refl
 
-pub or_on : (a : Bool) → true ≡ a || true
-or_on true = refl
-or_on false = refl
-
-pub or_off : (a : Bool) → a ≡ a || false
-or_off true = refl
-or_off false = refl
-
 module _ (a b : Bool) where
   pub first_of_two : (p : Bool) → p ≡ a → not p ≡ true → false ≡ a && b
   first_of_two p e t = rw (sym e ∙ not-true p t)
 
   pub last_of_two : (p r : Bool) → p ≡ a → not p ≡ false → r ≡ b → r ≡ a && b
   last_of_two p r e t z = rw (sym e ∙ not-false p t) z
-
-module _ (a b d : Bool) where
-  pub first_of_three : (p : Bool) → p ≡ a → not p ≡ true → false ≡ a && b && d
-  first_of_three p e t = rw (sym e ∙ not-true p t)
-
-  pub second_of_three : (p q : Bool) → p ≡ a → not p ≡ false → q ≡ b → not q ≡ true → false ≡ a && b && d
-  second_of_three p q e t z s = rw (sym e ∙ not-false p t, sym z ∙ not-true q s)
-
-  pub last_of_three : (p q r : Bool) → p ≡ a → not p ≡ false → q ≡ b → not q ≡ false → r ≡ d → r ≡ a && b && d
-  last_of_three p q r e t z s y = rw (sym e ∙ not-false p t, sym z ∙ not-false q s) y
 
 -- ── Every number below n ──
 
@@ -59,3 +46,13 @@ all_done n p i h b = sym (at_every n p (λ j l. b.all j (omega arith)))
 
 pub one_fails : (n : ℕ) (p : ℕ → Bool) (i : ℕ) → i < n → p i ≡ false → false ≡ every n p
 one_fails n p i h e = nope (every n p) (λ t. false≢true (sym e ∙ every_at n p i t h))
+
+-- what `all` over the numbers below n answers
+pub every_by_all : (n : ℕ) (p : ℕ → Bool) (r : Bool)
+    → MatchBool r (AllWithin (λ k. p k ≡ true) (range_with_len 0 n) 0 (length (range_with_len 0 n))) ((k : ℕ) × (k < length (range_with_len 0 n)) × HoldsAt (λ k. p k ≡ false) (range_with_len 0 n) k)
+    → r ≡ every n p
+every_by_all n p true h =
+    sym (at_every n p (λ i l. rw (get_or-range_with_len 0 n i 0 l, zero-add i) at (h i 0 (omega arith) (omega (arith, length-range_with_len 0 n)))))
+every_by_all n p false h =
+    let l : h.0 < n = omega (arith, h.1, length-range_with_len 0 n) in
+    one_fails n p h.0 l (rw (get_or-range_with_len 0 n h.0 0 l, zero-add h.0) at (h.2 0))

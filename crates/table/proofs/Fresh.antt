@@ -3,15 +3,15 @@ use mathlib.Core.Path.{◌≡◌, refl, sym, ap, ap₂, ◌∙◌}
 use mathlib.Core.Logic.{◌≢◌}
 use mathlib.Core.Bool.{Bool, true, false, not, ◌&&◌}
 use mathlib.Core.List.{List, [], ◌∷◌, ◌++◌}
-use Prim.Native.Nat.{ℕ, zero, suc, ◌+◌, ◌*◌, ◌≤◌, ◌<◌}
+use Prim.Native.Nat.{ℕ, zero, suc, ◌+◌, ◌-◌, ◌*◌, ◌≤◌, ◌<◌}
 use native.Mathlib.Nat.{not-suc-le-zero}
 use native.Mathlib.Omega.{arith}
 use lib.Dec.{eqb}
 use lib.ListN.{length, get_or, take, drop, set, replicate, length-append, length-replicate, length-drop, get_or-replicate, take-append-drop, get_or-append}
-use lib.Seq.{paste, take_all, take-append_seam, take-take, take-add, drop-drop, ext_get_or}
+use lib.Seq.{paste, length-take-le, take-take, take-add, drop-drop, ext_get_or}
+use borrow.Rule.Slice.PartMut.{put_mid}
 use borrow.Author.Tests.{eq-eqb, not-true, not-false}
-use Rattle.ring.specs.Ring.{queued, whole}
-use Rattle.words.specs.declared.Verdict.{Verdict}
+use Rattle.std.specs.Prelude.{Ok, Err}
 use Rattle.words.specs.declared.Errno.TheVariants.{EINVAL, SHORT}
 use Rattle.rules.specs.Table as model
 use Rattle.rules.specs.Table.{at, vacant, fresh}
@@ -34,19 +34,15 @@ use Rattle.table.proofs.Equal.{equal}
 
 -- ── What the code writes ──
 
-whole_start : (l : List ℕ) → whole l 0 ≡ l
-unfolding queued
-whole_start l = take-append_seam l l
-
-pub cleared : (n c : ℕ) (w w' : List ℕ) → 8 + 16 * n ≤ length w → whole w' 0 ≡ paste (whole (set (set w 0 n) 1 c) 0) 2 (replicate (6 + 16 * n) 0) (6 + 16 * n) → w' ≡ fresh_words n c w
-cleared n c [] w' h e = let z : 1 ≤ 0 = omega arith in absurd (not-suc-le-zero z)
-cleared n c (x ∷ []) w' h e = let z : 1 ≤ 0 = omega arith in absurd (not-suc-le-zero z)
-cleared n c (x ∷ y ∷ w) w' h e =
-    let two : 2 + (6 + 16 * n) ≡ 8 + 16 * n = omega arith in
-    let behind : drop (2 + (6 + 16 * n)) (n ∷ c ∷ w) ≡ drop (8 + 16 * n) (x ∷ y ∷ w) =
-    sym (drop-drop (6 + 16 * n) 2 (n ∷ c ∷ w)) ∙ drop-drop (6 + 16 * n) 2 (x ∷ y ∷ w) ∙ ap (λ (k : ℕ). drop k (x ∷ y ∷ w)) two in
-    sym (whole_start w') ∙ e ∙ ap (λ (l : List ℕ). paste l 2 (replicate (6 + 16 * n) 0) (6 + 16 * n)) (whole_start (n ∷ c ∷ w))
-    ∙ ap₂ (λ (l r : List ℕ). n ∷ c ∷ (l ++ r)) (take_all (6 + 16 * n) (replicate (6 + 16 * n) 0) (omega (arith, length-replicate {A = ℕ} (6 + 16 * n) 0))) behind
+pub cleared : (n c : ℕ) (w zs : List ℕ) → 8 + 16 * n ≤ length w → zs ≡ replicate (length (take (8 + 16 * n - 2) (drop 2 (set (set w 0 n) 1 c)))) 0
+    → put_mid 2 (8 + 16 * n - 2) (set (set w 0 n) 1 c) zs ≡ fresh_words n c w
+cleared n c [] zs h e = let z : 1 ≤ 0 = omega arith in absurd (not-suc-le-zero z)
+cleared n c (x ∷ []) zs h e = let z : 1 ≤ 0 = omega arith in absurd (not-suc-le-zero z)
+cleared n c (x ∷ y ∷ w) zs h e =
+    let m = 8 + 16 * n - 2 in
+    let two : 2 + m ≡ 8 + 16 * n = omega arith in
+    let long : length (take m w) ≡ 6 + 16 * n = length-take-le m w (omega arith) ∙ omega arith in
+    ap₂ (λ (l r : List ℕ). n ∷ c ∷ (l ++ r)) (e ∙ ap (λ (k : ℕ). replicate k 0) long) (drop-drop m 2 (x ∷ y ∷ w) ∙ ap (λ (k : ℕ). drop k (x ∷ y ∷ w)) two)
 
 -- ── The words of a made table ──
 
@@ -129,20 +125,20 @@ never : (n : ℕ) → suc n ≢ 0
 never n e = omega arith
 
 module _ (n c : ℕ) (w b t : List ℕ) (p : Bool) (ep : p ≡ in_range n c) where
-  pub make_range : not p ≡ true → Makes n c (lent w b t) (lent w b t) (Verdict.Refused EINVAL)
+  pub make_range : not p ≡ true → Makes n c (lent w b t) (lent w b t) (Err EINVAL)
   unfolding make_no
   make_range tp =
       let e : make_no n c (lent w b t) ≡ 2 = rw (sym ep ∙ not-true p tp) in
       record { answers = sym e; storage = rw e; shows = λ z. absurd (never 1 (sym e ∙ z)); well = λ z. absurd (never 1 (sym e ∙ z)) }
 
   module _ (tp : not p ≡ false) (q : Bool) (eq : q ≡ storage_fits n c (lent w b t)) where
-    pub make_short : not q ≡ true → Makes n c (lent w b t) (lent w b t) (Verdict.Refused SHORT)
+    pub make_short : not q ≡ true → Makes n c (lent w b t) (lent w b t) (Err SHORT)
     unfolding make_no
     make_short tq =
         let e : make_no n c (lent w b t) ≡ 18 = rw (sym ep ∙ not-false p tp, sym eq ∙ not-true q tq) in
         record { answers = sym e; storage = rw e; shows = λ z. absurd (never 17 (sym e ∙ z)); well = λ z. absurd (never 17 (sym e ∙ z)) }
 
-    pub make_done : (w' : List ℕ) → not q ≡ false → w' ≡ fresh_words n c w → Makes n c (lent w b t) (lent w' b t) Verdict.Accepted
+    pub make_done : (w' : List ℕ) → not q ≡ false → w' ≡ fresh_words n c w → Makes n c (lent w b t) (lent w' b t) (Ok tt)
     unfolding make_no
     make_done w' tq ew =
         let r : in_range n c ≡ true = sym ep ∙ not-false p tp in

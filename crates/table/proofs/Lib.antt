@@ -11,7 +11,6 @@ pub mod EqualUp
 pub mod Conjunctions
 pub mod OwnNumbers
 pub mod WordByWord
-pub mod Peers
 pub mod Servers
 pub mod Pass
 pub mod Runs

@@ -1,14 +1,15 @@
 -- The slots that the pass skips: closed ones, and connected ones that are well.
 use mathlib.Core.Path.{◌≡◌, sym, subst, ◌∙◌}
-use mathlib.Core.Logic.{◌≢◌}
-use mathlib.Core.Bool.{Bool, true, false, not}
+use mathlib.Core.Bool.{Bool, true, false, ◌&&◌}
 use mathlib.Core.List.{List, []}
 use Prim.Native.Nat.{ℕ, ◌+◌, ◌≤◌, ◌<◌}
 use native.Mathlib.Decide.{dec_lt}
 use native.Mathlib.Omega.{arith}
+use lib.Dec.{eqb}
 use lib.ListN.{get_or}
 use lib.Bits.{bit_or}
-use borrow.Author.Tests.{le-leb, not-true, not-false}
+use borrow.Author.Tests.{le-leb, eq-eqb, eqb-true}
+use Rattle.laws.proofs.Tests.{and_left, and_right}
 use Rattle.laws.proofs.Bits.{or_least, or-zero}
 use Rattle.storage.specs.Layout.{cell_base}
 use Rattle.storage.specs.Cells.{cell_at}
@@ -28,9 +29,6 @@ closed_here w n i r h run e l =
     go j hi hr (yes x) = run.closed j hi x
     go j hi hr (no x) = let z : r ≡ j = omega arith in subst (λ (y : ℕ). ((cell_at w y).tag ≡ 0) × ((cell_at w y).generation ≤ 4294967295)) z (e, l)
 
-pub none_closed : (w : List ℕ) (n i : ℕ) → i ≤ n → ClosedRun w n i i
-none_closed w n i h = record { onward = omega arith; inside = h; closed = λ j hi hr. absurd (let z : j < j = omega arith in omega arith) }
-
 pub two_closed : (w : List ℕ) (n i r : ℕ) → r + 1 < n → ClosedRun w n i r → bit_or (get_or w (cell_base r + 1) 0) (get_or w (cell_base r + 17) 0) ≡ 0
     → bit_or (get_or w (cell_base r + 0) 0) (get_or w (cell_base r + 16) 0) ≤ 4294967295 → ClosedRun w n i (r + 2)
 two_closed w n i r h run e l =
@@ -47,9 +45,6 @@ two_closed w n i r h run e l =
 -- ── Connected slots ──
 
 module _ (n c : ℕ) (w : List ℕ) (i : ℕ) where
-  pub none_passed : i ≤ n → PassRun n c w i i
-  none_passed h = record { onward = omega arith; inside = h; passes = λ j b hi hr. absurd (let z : j < j = omega arith in omega arith) }
-
   module _ (r : ℕ) (run : PassRun n c w i r) where
     pub one_more : r < n → ((b : List ℕ) → slot_checks n c w b r ≡ true) → PassRun n c w i (r + 1)
     one_more h e =
@@ -59,18 +54,16 @@ module _ (n c : ℕ) (w : List ℕ) (i : ℕ) where
         go j b hi hr (yes x) = run.passes j b hi x
         go j b hi hr (no x) = let z : r ≡ j = omega arith in subst (λ (y : ℕ). slot_checks n c w b y ≡ true) z (e b)
 
-    pub at_another : (cell_at w r).tag ≢ 4 → Skips n c w i r
-    at_another ne = record { run = run; stops = λ b h e. absurd (ne e) }
+    -- slot r, by the check of a connected one
+    module _ (p : Bool) (ep : p ≡ eqb (cell_at w r).tag 4 && slot_checks n c w [] r) where
+      pub stops_here : p ≡ false → Skips n c w i r
+      stops_here f = record { run = run; stops = λ b h e. sym (no_bytes n c w r e b) ∙ sym (rw (eq-eqb (cell_at w r).tag 4 e)) ∙ sym ep ∙ f }
 
-    pub at_the_end : n ≤ r → Skips n c w i r
-    at_the_end l = record { run = run; stops = λ b h e. absurd (omega arith) }
-
-    module _ (et : (cell_at w r).tag ≡ 4) (p : Bool) (ep : p ≡ slot_checks n c w [] r) where
-      pub well_here : r < n → not p ≡ false → PassRun n c w i (r + 1)
-      well_here h t = one_more h (λ b. sym (no_bytes n c w r et b) ∙ sym ep ∙ not-false p t)
-
-      pub at_a_bad_one : not p ≡ true → Skips n c w i r
-      at_a_bad_one t = record { run = run; stops = λ b h e. sym (no_bytes n c w r et b) ∙ sym ep ∙ not-true p t }
+      pub goes_on : r < n → p ≡ true → PassRun n c w i (r + 1)
+      goes_on h t =
+          let a = sym ep ∙ t in
+          let e = eqb-true (cell_at w r).tag 4 (and_left (eqb (cell_at w r).tag 4) (slot_checks n c w [] r) a) in
+          one_more h (λ b. sym (no_bytes n c w r e b) ∙ and_right (eqb (cell_at w r).tag 4) (slot_checks n c w [] r) a)
 
 -- ── All slots before ──
 

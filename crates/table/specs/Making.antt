@@ -1,8 +1,8 @@
 -- Making a table: "range 2, then 18. It lends no wake or release list: its 18 is about storage only. The result is the fresh table and well-formed,
 -- whatever the bytes were before."
-use Rattle.std.specs.Prelude.{ℕ, ◌+◌, ◌*◌, ◌≡◌, true, cond, List, ◌∷◌, ◌++◌, eqb, drop, replicate}
+use Rattle.words.specs.declared.Errno.{Errno}
+use Rattle.std.specs.Prelude.{ℕ, ◌+◌, ◌*◌, ◌≡◌, true, cond, List, ◌∷◌, ◌++◌, eqb, drop, replicate, Result}
 use Rattle.words.specs.Numbers.{refusal_of}
-use Rattle.words.specs.declared.Verdict.{Verdict}
 use Rattle.rules.specs.Table.{fresh}
 use Rattle.rules.specs.Run.{in_range}
 use Rattle.storage.specs.Rows.{Store, lent}
@@ -22,7 +22,7 @@ fresh_words n c w = n ∷ c ∷ (replicate (6 + 16 * n) 0 ++ drop (8 + 16 * n) w
 abbrev pub made : ℕ → ℕ → Store → Store
 made n c s = lent (fresh_words n c s.words) s.bytes s.tokens
 
-pub record Makes (n c : ℕ) (s s' : Store) (r : Verdict) : Type 0 where
+pub record Makes (n c : ℕ) (s s' : Store) (r : Result Unit Errno) : Type 0 where
   pub answers : refusal_of r ≡ make_no n c s
   pub storage : s' ≡ cond (eqb (make_no n c s) 0) (made n c s) s
   pub shows : make_no n c s ≡ 0 → view n c s' ≡ fresh n c

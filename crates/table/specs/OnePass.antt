@@ -1,6 +1,7 @@
 -- The same test as the code makes it: slot by slot, a name only against those of the slots before it. proofs/Equal.antt shows that it is `formed`.
-use Rattle.std.specs.Prelude.{ℕ, ◌/◌, ◌≤◌, ◌<◌, ◌≡◌, Bool, true, false, cond, not, ◌&&◌, ◌||◌, List, leb, ltb, eqb, take}
+use Rattle.std.specs.Prelude.{ℕ, ◌+◌, ◌/◌, ◌≤◌, ◌<◌, ◌≡◌, Bool, true, false, cond, not, ◌&&◌, ◌||◌, List, leb, ltb, eqb, get_or, take}
 use Rattle.std.specs.Bool.{beq}
+use Rattle.ring.specs.Ring.{place_of}
 use Rattle.inbox.specs.Well.{is_well}
 use Rattle.rules.specs.Table.{slot_of, handle}
 use Rattle.rules.specs.WellFormed.{every}
@@ -9,9 +10,10 @@ use Rattle.storage.specs.Cells.{cell_at, state_of}
 use Rattle.storage.specs.Rows.{Store}
 use Rattle.storage.specs.Finding.{least, occupied, holds_cell}
 use Rattle.storage.specs.declared.Cell.{Cell}
+use Rattle.storage.specs.declared.Listener.{Listener}
 use Rattle.storage.specs.declared.State.{State}
 use Rattle.storage.specs.declared.State.TheVariants.{Closed, Unbound, Bound, Listening, Connected}
-use Rattle.table.specs.Formed.{header_well, fields_well, ranges_well, tied_state}
+use Rattle.table.specs.Formed.{header_well, fields_well, ranges_well, queue_in, server_well, tied_state}
 
 -- 1 to 255 bytes, and no slot before i has this name
 unfoldable pub name_checks : ℕ → ℕ → List ℕ → List ℕ → ℕ → ℕ → Bool
@@ -31,6 +33,10 @@ unfoldable pub peer_checks : ℕ → List ℕ → ℕ → ℕ → Bool → Bool
 peer_checks n w me p outbox_closed =
     ltb (slot_of p) n && leb 1 (p / 65536) && leb (p / 65536) (cell_at w (slot_of p)).generation && not (eqb p me)
     && cond (eqb (p / 65536) (cell_at w (slot_of p)).generation) (points_back me outbox_closed (state_of (cell_at w (slot_of p)))) true
+
+-- entry k of the queue of slot i, a listener's
+abbrev pub entry_well : ℕ → List ℕ → ℕ → Listener → ℕ → Bool
+entry_well n w i l k = server_well n w i (place_of n (l.head + k)) (get_or (queue_in n w i) (place_of n (l.head + k)) 0)
 
 unfoldable pub state_checks : ℕ → ℕ → List ℕ → List ℕ → ℕ → State → Bool
 state_checks n c w b i Closed = true

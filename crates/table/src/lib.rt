@@ -1,16 +1,17 @@
 // The table in the lent storage: is it well-formed, and may a call go on?
 #![tactic(auto)]
 
-pub mod connected;
-pub mod fields;
+mod connected;
+mod fields;
 pub mod make;
-pub mod pairs;
-pub mod pending;
+mod pairs;
+mod pending;
 pub mod sizes;
 
 ghost use Rattle.std.specs.Prelude.{◌≡◌, ◌≢◌, false, ◌&&◌, ◌+◌, ◌*◌, ◌≤◌, ◌<◌, length, get_or, eqb};
 ghost use Rattle.words.specs.Numbers.{refusal_of};
 ghost use Rattle.rules.specs.WellFormed.{every};
+ghost use Rattle.storage.specs.Layout.{HasRows, HasNames};
 ghost use Rattle.storage.specs.Cells.{cell_at};
 ghost use Rattle.storage.specs.Rows.{lent};
 ghost use Rattle.storage.specs.declared.State.TheVariants.{Listening};
@@ -18,10 +19,35 @@ ghost use Rattle.table.specs.Formed.{header_well};
 ghost use Rattle.table.specs.OnePass.{name_checks, state_checks, slot_checks, ClosedRun};
 ghost use Rattle.table.specs.Admission.{admits};
 
-use storage::Listener;
-use words::{Errno, Verdict};
+use storage::{Listener, State};
+use words::Errno;
+
+// The tags of slots, as they stand in the words.
+pub(crate) const CLOSED: u64 = 0;
+
+pub(crate) const UNBOUND: u64 = 1;
+
+pub(crate) const BOUND: u64 = 2;
+
+pub(crate) const LISTENING: u64 = 3;
+
+pub(crate) const CONNECTED: u64 = 4;
+
+// The last generation of a slot.
+pub(crate) const LAST_GENERATION: u64 = 4294967295;
+
+// What is lent for a table of `n` slots of capacity `c`, long enough.
+#[derive(Clone, Copy)]
+pub(crate) struct Table<'a> {
+    words: &'a [u64],
+    bytes: &'a [u8],
+    n: usize,
+    c: usize,
+    ghost roomy: { (n ≤ 1024) × HasRows n words.now × HasNames n c bytes.now },
+}
 
 // The six words after N and C.
+#[tactic(auto, using(crate::proofs::Pass::six_zeros))]
 fn zeros(words: &[u64]) -> bool
     requires { 8 ≤ length words.now }
     ensures { result ≡ every 6 (λ k. eqb (get_or words.now (2 + k) 0) 0) }
@@ -29,152 +55,137 @@ fn zeros(words: &[u64]) -> bool
     (words[2] | words[3] | words[4] | words[5] | words[6] | words[7]) == 0
 }
 
-// "storage numbers match N and C"
-fn header_well(words: &[u64], n: usize, c: usize) -> bool
-    requires { 8 ≤ length words.now }
-    ensures { result ≡ header_well n c words.now }
-{
-    if words[0] != n as u64 {
-        return false;
+impl Table<'_> {
+    // "storage numbers match N and C"
+    #[tactic(auto, unfolding(crate::specs::Formed::header_well))]
+    fn header_well(&self) -> bool
+        ensures { result ≡ header_well self.now.n self.now.c self.now.words.now }
+    {
+        self.words[0] == self.n as u64 && self.words[1] == self.c as u64 && zeros(self.words)
     }
-    if words[1] != c as u64 {
-        return false;
-    }
-    zeros(words)
-}
 
-// The name of slot `i`: 1 to 255 bytes, and no slot before it has the same.
-fn name_checks(words: &[u64], bytes: &[u8], n: usize, c: usize, i: usize, m: usize) -> bool
-    requires { (i < n) × (8 + 16 * n ≤ length words.now) × (c * n + 255 * n ≤ length bytes.now) }
-    ensures { result ≡ name_checks n c words.now bytes.now i m }
-{
-    if m < 1 {
-        return false;
+    // The name of slot `i`: 1 to 255 bytes, and no slot before it has the same. Not inlined: the loop
+    // over connected slots then keeps its numbers in registers.
+    #[tactic(auto, unfolding(crate::specs::OnePass::name_checks))]
+    #[inline(never)]
+    fn name_checks(&self, i: usize, m: usize) -> bool
+        requires { i < self.now.n }
+        ensures { result ≡ name_checks self.now.n self.now.c self.now.words.now self.now.bytes.now i m }
+    {
+        if !(1..=255).contains(&m) {
+            return false;
+        }
+        let a = self.c * self.n + 255 * i;
+        let name = &self.bytes[a..a + m];
+        storage::names::find(self.words, self.bytes, self.n, self.c, i, name).is_none()
     }
-    if 255 < m {
-        return false;
-    }
-    let a = c * n + 255 * i;
-    storage::names::find(words, bytes, n, c, i, &bytes[a..a + m]) == i
-}
 
-fn listening_checks(
-    words: &[u64],
-    bytes: &[u8],
-    n: usize,
-    c: usize,
-    i: usize,
-    listener: Listener,
-) -> bool
-    requires { (i < n) × (n ≤ 1024) × (8 + 272 * n + n * n ≤ length words.now) × (c * n + 255 * n ≤ length bytes.now) }
-    ensures { result ≡ state_checks n c words.now bytes.now i (Listening listener) }
-{
-    if !name_checks(words, bytes, n, c, i, listener.name) {
-        return false;
+    #[tactic(auto, unfolding(crate::specs::OnePass::state_checks, crate::specs::Formed::ranges_well))]
+    fn listening_checks(&self, i: usize, listener: Listener) -> bool
+        requires { i < self.now.n }
+        ensures { result ≡ state_checks self.now.n self.now.c self.now.words.now self.now.bytes.now i (Listening listener) }
+    {
+        self.name_checks(i, listener.name)
+            && fields::listener_ranges(self.n, listener)
+            && self.servers_well(i, listener)
     }
-    if !fields::listener_ranges(n, listener) {
-        return false;
-    }
-    pending::servers_well(words, n, i, listener)
-}
 
-// A slot that is not connected.
-fn other_checks(words: &[u64], bytes: &[u8], n: usize, c: usize, i: usize) -> bool
-    requires roomy { (i < n) × (n ≤ 1024) × (8 + 272 * n + n * n ≤ length words.now) × (c * n + 255 * n ≤ length bytes.now) }
-    requires not_connected { (cell_at words.now i).tag ≢ 4 }
-    ensures { result ≡ slot_checks n c words.now bytes.now i }
-{
-    let cell = storage::load_cell(words, i);
-    if !fields::generation_well(cell) {
-        return false;
+    // A slot that is not connected.
+    #[tactic(auto, unfolding(crate::specs::OnePass::slot_checks, crate::specs::OnePass::state_checks, storage::specs::Cells::state_of))]
+    fn other_checks(&self, i: usize) -> bool
+        requires in_table { i < self.now.n }
+        requires not_connected { (cell_at self.now.words.now i).tag ≢ 4 }
+        ensures { result ≡ slot_checks self.now.n self.now.c self.now.words.now self.now.bytes.now i }
+    {
+        let cell = storage::load_cell(self.words, i);
+        if !fields::generation_well(cell) || !fields::fields_well(cell) {
+            return false;
+        }
+        match State::from(cell) {
+            State::Bound(name) => self.name_checks(i, name),
+            State::Listening(listener) => self.listening_checks(i, listener),
+            _ => true,
+        }
     }
-    if !fields::fields_well(cell) {
-        return false;
-    }
-    if cell.tag == 2 {
-        return name_checks(words, bytes, n, c, i, cell.name as usize);
-    }
-    if cell.tag == 3 {
-        return listening_checks(words, bytes, n, c, i, storage::listener_of(cell));
-    }
-    true
-}
 
-// A slot that was not skipped: a connected one is not well. Of a closed slot no more than two words are read.
-fn slot_checks(words: &[u64], bytes: &[u8], n: usize, c: usize, i: usize) -> bool
-    requires roomy { (i < n) × (n ≤ 1024) × (8 + 272 * n + n * n ≤ length words.now) × (c * n + 255 * n ≤ length bytes.now) }
-    requires bad_if_connected { (cell_at words.now i).tag ≡ 4 → slot_checks n c words.now bytes.now i ≡ false }
-    ensures { result ≡ slot_checks n c words.now bytes.now i }
-{
-    let b = 8 + 16 * i;
-    let tag = words[b + 1];
-    if tag == 4 {
-        return false;
-    }
-    if tag == 0 {
-        return words[b + 0] <= 4294967295;
-    }
-    other_checks(words, bytes, n, c, i)
-}
-
-// Past closed slots, two at a time.
-fn skip_pairs(words: &[u64], n: usize, from: usize) -> usize
-    requires { (from ≤ n) × (n ≤ 1024) × (8 + 16 * n ≤ length words.now) }
-    ensures { ClosedRun words.now n from result }
-{
-    let mut i = from;
-    while i + 1 < n {
+    // A slot that was not skipped: a connected one is not well. Of a closed slot no more than two
+    // words are read.
+    #[tactic(auto, using(crate::proofs::Pass::slot_closed), unfolding(storage::specs::Cells::cell_at))]
+    fn slot_checks(&self, i: usize) -> bool
+        requires in_table { i < self.now.n }
+        requires bad_if_connected { (cell_at self.now.words.now i).tag ≡ 4 → slot_checks self.now.n self.now.c self.now.words.now self.now.bytes.now i ≡ false }
+        ensures { result ≡ slot_checks self.now.n self.now.c self.now.words.now self.now.bytes.now i }
+    {
         let b = 8 + 16 * i;
-        if (words[b + 1] | words[b + 17]) != 0 {
-            return i;
+        match self.words[b + 1] {
+            CONNECTED => false,
+            CLOSED => self.words[b + 0] <= LAST_GENERATION,
+            _ => self.other_checks(i),
         }
-        if 4294967295 < (words[b + 0] | words[b + 16]) {
-            return i;
-        }
-        i += 2;
     }
-    i
-}
 
-// The first slot from `from` on that is not closed, or whose generation is too large; or `n`.
-fn skip_closed(words: &[u64], n: usize, from: usize) -> usize
-    requires { (from ≤ n) × (n ≤ 1024) × (8 + 16 * n ≤ length words.now) }
-    ensures { ClosedRun words.now n from result }
-{
-    let mut i = skip_pairs(words, n, from);
-    while i < n {
-        let b = 8 + 16 * i;
-        if words[b + 1] != 0 {
-            return i;
+    // Past closed slots, two at a time.
+    // Stays: a `step_by(2)` is no plainer, since what follows needs the slot where it stopped.
+    fn skip_pairs(&self, from: usize) -> usize
+        requires { from ≤ self.now.n }
+        ensures { ClosedRun self.now.words.now self.now.n from result }
+    {
+        let mut i = from;
+        while i + 1 < self.n {
+            let b = 8 + 16 * i;
+            if (self.words[b + 1] | self.words[b + 17]) != CLOSED
+                || LAST_GENERATION < (self.words[b + 0] | self.words[b + 16])
+            {
+                return i;
+            }
+            i += 2;
         }
-        if 4294967295 < words[b + 0] {
-            return i;
-        }
-        i += 1;
+        i
     }
-    i
+
+    // The first slot from `from` on that is not closed, or whose generation is too large; or `n`.
+    fn skip_closed(&self, from: usize) -> usize
+        requires { from ≤ self.now.n }
+        ensures { ClosedRun self.now.words.now self.now.n from result }
+    {
+        for i in self.skip_pairs(from)..self.n {
+            let b = 8 + 16 * i;
+            if self.words[b + 1] != CLOSED || LAST_GENERATION < self.words[b + 0] {
+                return i;
+            }
+        }
+        self.n
+    }
+
+    // The whole check, one pass over the slots.
+    // Stays: a `for` is no plainer, since each turn passes a run of slots.
+    fn is_well_formed(&self) -> bool
+        ensures { result ≡ header_well self.now.n self.now.c self.now.words.now && every self.now.n (slot_checks self.now.n self.now.c self.now.words.now self.now.bytes.now) }
+    {
+        if !self.header_well() {
+            return false;
+        }
+        let mut i = self.skip_closed(0);
+        while i < self.n {
+            i = self.skip_well(i);
+            if i < self.n {
+                if !self.slot_checks(i) {
+                    return false;
+                }
+                i = self.skip_closed(i + 1);
+            }
+        }
+        true
+    }
 }
 
 // The whole check, one pass over the slots: `checks` of specs/OnePass, which does not look at the
 // items.
 pub fn well_formed(words: &[u64], bytes: &[u8], n: usize, c: usize) -> bool
-    requires { (n ≤ 1024) × (8 + 272 * n + n * n ≤ length words.now) × (c * n + 255 * n ≤ length bytes.now) }
+    requires { (n ≤ 1024) × HasRows n words.now × HasNames n c bytes.now }
     ensures { result ≡ header_well n c words.now && every n (slot_checks n c words.now bytes.now) }
 {
-    if !header_well(words, n, c) {
-        return false;
-    }
-    let mut i = skip_closed(words, n, 0);
-    while i < n {
-        i = connected::skip_well(words, n, c, i);
-        if i < n {
-            if !slot_checks(words, bytes, n, c, i) {
-                return false;
-            }
-            i = skip_closed(words, n, i + 1);
-        }
-    }
-    true
+    Table { words, bytes, n, c }.is_well_formed()
 }
 
 // What every call asks first: "N or C out of range 2; 18; 19".
@@ -186,20 +197,20 @@ pub fn admission(
     releases: &[u32],
     n: usize,
     c: usize,
-) -> Verdict
+) -> Result<(), Errno>
     ensures { refusal_of result ≡ admits n c (lent words.now bytes.now tokens.now) (length wakes.now) (length releases.now) }
 {
     if !sizes::in_range(n, c) {
-        return Verdict::Refused(Errno::EINVAL);
+        return Err(Errno::EINVAL);
     }
     if !sizes::storage_fits(words, bytes, tokens, n, c) {
-        return Verdict::Refused(Errno::SHORT);
+        return Err(Errno::SHORT);
     }
     if !sizes::lists_fit(wakes, releases, n, c) {
-        return Verdict::Refused(Errno::SHORT);
+        return Err(Errno::SHORT);
     }
     if !well_formed(words, bytes, n, c) {
-        return Verdict::Refused(Errno::DAMAGED);
+        return Err(Errno::DAMAGED);
     }
-    Verdict::Accepted
+    Ok(())
 }

@@ -3,7 +3,7 @@ ghost use Rattle.std.specs.Prelude.{◌+◌, ◌*◌, ◌≤◌, ◌≡◌, leng
 ghost use Rattle.storage.specs.Rows.{lent};
 ghost use Rattle.table.specs.Making.{fresh_words, Makes};
 
-use words::{Errno, Verdict};
+use words::Errno;
 
 // The header, and every slot closed.
 fn clear(words: &mut [u64], n: usize, c: usize)
@@ -12,19 +12,25 @@ fn clear(words: &mut [u64], n: usize, c: usize)
 {
     words[0] = n as u64;
     words[1] = c as u64;
-    ring::fill_u64(words, 0, 2, 0, 6 + 16 * n);
+    words[2..8 + 16 * n].fill(0);
 }
 
 // A table of `n` slots of capacity `c`, all of them free.
-pub fn make(words: &mut [u64], bytes: &[u8], tokens: &[u32], n: usize, c: usize) -> Verdict
+pub fn make(
+    words: &mut [u64],
+    bytes: &[u8],
+    tokens: &[u32],
+    n: usize,
+    c: usize,
+) -> Result<(), Errno>
     ensures { Makes n c (lent words.old bytes.now tokens.now) (lent words.new bytes.now tokens.now) result }
 {
     if !crate::sizes::in_range(n, c) {
-        return Verdict::Refused(Errno::EINVAL);
+        return Err(Errno::EINVAL);
     }
     if !crate::sizes::storage_fits(words, bytes, tokens, n, c) {
-        return Verdict::Refused(Errno::SHORT);
+        return Err(Errno::SHORT);
     }
     clear(words, n, c);
-    Verdict::Accepted
+    Ok(())
 }

@@ -7,9 +7,9 @@ use lib.Dec.{eqb}
 use lib.IntN.{ℤ}
 use lib.ListN.{length}
 use borrow.Author.Tests.{ne_eqb}
+use Rattle.std.specs.Prelude.{Result, Ok, Err}
 use Rattle.words.specs.Numbers.{number_of, refusal_of}
 use Rattle.words.specs.declared.Errno.{Errno}
-use Rattle.words.specs.declared.Verdict.{Verdict}
 use Rattle.rules.specs.Outcome.{Call, Outcome, refuse, refuse_if}
 use Rattle.rules.specs.Run.{run, entry}
 use Rattle.storage.specs.Rows.{Store}
@@ -33,9 +33,9 @@ unfolding entry admits
 outcome_is n c s l call = refl
 
 -- the answer of admission
-module _ (n c : ℕ) (s : Store) (l : Lists) (v : Verdict) (ev : refusal_of v ≡ admits n c s (length l.wakes) (length l.releases)) where
+module _ (n c : ℕ) (s : Store) (l : Lists) (v : Result Unit Errno) (ev : refusal_of v ≡ admits n c s (length l.wakes) (length l.releases)) where
   -- refused
-  module _ (e : Errno) (er : v ≡ Verdict.Refused e) where
+  module _ (e : Errno) (er : v ≡ Err e) where
     is_refused : (call : Call) → outcome n c s l call ≡ refuse (view n c s) (number_of e)
     unfolding refuse_if
     is_refused call = outcome_is n c s l call ∙ rw (sym ev, er, some_refusal e)
@@ -47,7 +47,7 @@ module _ (n c : ℕ) (s : Store) (l : Lists) (v : Verdict) (ev : refusal_of v �
     refused_fills call buf items = rw (is_refused call) (record { buffer = refl; item_list = refl })
 
   -- accepted
-  module _ (ea : v ≡ Verdict.Accepted) where
+  module _ (ea : v ≡ (Ok tt)) where
     is_admitted : admits n c s (length l.wakes) (length l.releases) ≡ 0
     is_admitted = sym ev ∙ ap refusal_of ea
 
@@ -71,5 +71,5 @@ module _ (n c : ℕ) (s : Store) (l : Lists) (v : Verdict) (ev : refusal_of v �
     then_shutdown h how how' s' l' r e d = then_runs (Call.Shutdown h how) s' l' r (rw (sym e) d)
 
 -- what the call may ask then
-pub enters : {n c : ℕ} {s : Store} {wakes releases : ℕ} → (v : Verdict) → refusal_of v ≡ admits n c s wakes releases → v ≡ Verdict.Accepted → Admitted n c s wakes releases
+pub enters : {n c : ℕ} {s : Store} {wakes releases : ℕ} → (v : Result Unit Errno) → refusal_of v ≡ admits n c s wakes releases → v ≡ (Ok tt) → Admitted n c s wakes releases
 enters {n} {c} {s} {wakes} {releases} v ev ea = admitted n c s wakes releases (sym ev ∙ ap refusal_of ea)

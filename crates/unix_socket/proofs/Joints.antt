@@ -7,10 +7,10 @@ use lib.IntN.{ℤ}
 use lib.ListN.{length, take, drop}
 use lib.Seq.{take-append_seam}
 use borrow.Author.Tests.{lt-ltb, le-ltb}
+use Rattle.std.specs.Prelude.{Result, Ok, Err}
 use Rattle.words.specs.Integers.{equals}
 use Rattle.words.specs.Numbers.{number_of}
 use Rattle.words.specs.declared.Errno.{Errno}
-use Rattle.words.specs.declared.Answer as words
 use Rattle.syscall.specs.Control.{Control, meaning, capacity_of}
 use Rattle.syscall.specs.Promise.{parse_of, list_after, SendParsed, recv_capacity_of}
 use Rattle.rules.specs.Outcome.{Call, Outcome, refuse}
@@ -44,7 +44,7 @@ module _ (items : List ℤ → List ℕ) (flags : ℤ) (b : List ℕ) (f : List 
   table_last ds e m k = rw (e, m, le-ltb (length f) (length ds) k) (ap (λ (x : List ℤ). outcome n c s l (Call.Sendmsg h from (items x))) (take-append_seam ds (drop (length ds) f)))
 
   -- a host that asks `sendmsg_control` first: where it refuses, that is the answer
-  module _ (f' : List ℤ) (r : words.Answer) (p : SendParsed flags b f f' r) where
+  module _ (f' : List ℤ) (r : Result ℕ Errno) (p : SendParsed flags b f f' r) where
     asked : r ≡ send_asks flags b f
     unfolding send_asks
     asked = p.answer
@@ -53,12 +53,12 @@ module _ (items : List ℤ → List ℕ) (flags : ℤ) (b : List ℕ) (f : List 
     unfolding send_lists
     listed = p.list
 
-    pub send_stops : (e : Errno) → r ≡ words.Answer.Refused e → Done (sendmsg_of items flags b f n c s l h from) n c s s l l (refused_with (number_of e))
+    pub send_stops : (e : Errno) → r ≡ Err e → Done (sendmsg_of items flags b f n c s l h from) n c s s l l (refused_with (number_of e))
     unfolding sendmsg_of then_call
     send_stops e er = refused_done _ (number_of e) n c s l _ (rw (sym asked ∙ er)) (number_some e) refl
 
     -- and where it answers a number, the table call is the answer
-    module _ (k : ℕ) (ek : r ≡ words.Answer.Is k) where
+    module _ (k : ℕ) (ek : r ≡ Ok k) where
       send_is : sendmsg_of items flags b f n c s l h from ≡ outcome n c s l (Call.Sendmsg h from (items (take k f')))
       unfolding sendmsg_of then_call
       send_is = rw (sym asked ∙ ek) (ap (λ (x : List ℤ). outcome n c s l (Call.Sendmsg h from (items (take k x)))) (sym listed))
@@ -78,12 +78,12 @@ module _ (flags : ℤ) (m n c : ℕ) (s : Store) (l : Lists) (h size : ℕ) wher
   recv_table_last e = rw e
 
   -- a host that asks `recvmsg_capacity` first
-  module _ (r : words.Answer) (p : r ≡ recv_capacity_of flags m) where
-    pub recv_stops : (e : Errno) → r ≡ words.Answer.Refused e → Done (recvmsg_of flags m n c s l h size) n c s s l l (refused_with (number_of e))
+  module _ (r : Result ℕ Errno) (p : r ≡ recv_capacity_of flags m) where
+    pub recv_stops : (e : Errno) → r ≡ Err e → Done (recvmsg_of flags m n c s l h size) n c s s l l (refused_with (number_of e))
     unfolding recvmsg_of then_call
     recv_stops e er = refused_done _ (number_of e) n c s l _ (rw (sym p ∙ er)) (number_some e) refl
 
-    module _ (k : ℕ) (ek : r ≡ words.Answer.Is k) where
+    module _ (k : ℕ) (ek : r ≡ Ok k) where
       recv_is : recvmsg_of flags m n c s l h size ≡ outcome n c s l (Call.Recvmsg h size k)
       unfolding recvmsg_of then_call
       recv_is = rw (sym p ∙ ek)

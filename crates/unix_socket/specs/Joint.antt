@@ -1,10 +1,10 @@
 -- sendmsg and recvmsg as a kernel answers them: "Non-zero flags of sendmsg and recvmsg: 6, asked before control bytes are looked at and before the table
 -- call." Each is one outcome, put together from what `syscall` asks and the table call.
-use Rattle.std.specs.Prelude.{ℕ, cond, List, ℤ, take}
+use Rattle.words.specs.declared.Errno.{Errno}
+use Rattle.std.specs.Prelude.{ℕ, cond, List, ℤ, take, Result, Ok, Err}
 use Rattle.words.specs.Integers.{equals}
 use Rattle.words.specs.Numbers.{number_of}
 use Rattle.words.specs.declared.Errno.TheVariants.{EOPNOTSUPP}
-use Rattle.words.specs.declared.Answer.{Answer}
 use Rattle.syscall.specs.Control.{meaning}
 use Rattle.syscall.specs.Promise.{parse_of, list_after, recv_capacity_of}
 use Rattle.rules.specs.Table.{Table}
@@ -14,15 +14,15 @@ use Rattle.storage.specs.View.{view}
 use Rattle.promise.specs.Promise.{Lists, outcome}
 
 -- what was asked before the table call, and then the call, at the number that was answered
-unfoldable pub then_call : Answer → Table → (ℕ → Outcome) → Outcome
-then_call (Answer.Is k) t call = call k
-then_call (Answer.Refused e) t call = refuse t (number_of e)
+unfoldable pub then_call : Result ℕ Errno → Table → (ℕ → Outcome) → Outcome
+then_call (Ok k) t call = call k
+then_call (Err e) t call = refuse t (number_of e)
 
 -- ── sendmsg: flags, control bytes b, a lent list of descriptors f ──
 
 -- `SendParsed` of syscall: its answer and the list after it
-unfoldable pub send_asks : ℤ → List ℕ → List ℤ → Answer
-send_asks flags b f = cond (equals flags 0) (parse_of (meaning b) f) (Answer.Refused EOPNOTSUPP)
+unfoldable pub send_asks : ℤ → List ℕ → List ℤ → Result ℕ Errno
+send_asks flags b f = cond (equals flags 0) (parse_of (meaning b) f) (Err EOPNOTSUPP)
 
 unfoldable pub send_lists : ℤ → List ℕ → List ℤ → List ℤ
 send_lists flags b f = cond (equals flags 0) (list_after (meaning b) f) f

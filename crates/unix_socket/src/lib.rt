@@ -6,15 +6,17 @@ ghost use Rattle.std.specs.Prelude.{◌≡◌, [], length};
 ghost use Rattle.rules.specs.Outcome.{Call};
 ghost use Rattle.storage.specs.Rows.{lent};
 ghost use Rattle.table.specs.Making.{Makes};
+ghost use Rattle.promise.specs.Answers.{told};
 ghost use Rattle.promise.specs.Promise.{lists, Promise, PromiseFills};
-ghost use Rattle.unix_socket.specs.Least.{least_of};
+ghost use Rattle.unix_socket.specs.Least.{least_of, least_told};
 
-use promise::Answer;
-use words::{Errno, Handle, Verdict};
+use promise::Accepted;
+use storage::Sizes;
+use words::{Errno, Handle};
 
 // ── The table ──
 
-// 01's number, and the least sizes of what is lent where it is 0.
+// For C: 01's number, and the least sizes of what is lent where it is 0.
 #[repr(C)]
 #[derive(Clone, Copy)]
 pub struct Least {
@@ -26,33 +28,51 @@ pub struct Least {
     pub releases: u64,
 }
 
-// The least sizes for `n` slots of capacity `c`.
-pub fn sizes(n: usize, c: usize) -> Least
-    ensures { result ≡ least_of n c }
-{
-    if !table::sizes::in_range(n, c) {
-        return Least {
-            refusal: Errno::EINVAL.number(),
-            words: 0,
-            bytes: 0,
-            tokens: 0,
-            wakes: 0,
-            releases: 0,
-        };
-    }
-    let least = storage::least_sizes(n, c);
-    Least {
-        refusal: 0,
-        words: least.words as u64,
-        bytes: least.bytes as u64,
-        tokens: least.tokens as u64,
-        wakes: least.wakes as u64,
-        releases: least.releases as u64,
+impl From<Result<Sizes, Errno>> for Least {
+    ghost from_gives = { λ sizes least. least ≡ least_told sizes };
+
+    fn from(sizes: Result<Sizes, Errno>) -> Least
+        ensures { result ≡ least_told sizes }
+    {
+        match sizes {
+            Ok(least) => Least {
+                refusal: 0,
+                words: least.words as u64,
+                bytes: least.bytes as u64,
+                tokens: least.tokens as u64,
+                wakes: least.wakes as u64,
+                releases: least.releases as u64,
+            },
+            Err(no) => Least {
+                refusal: no.number(),
+                words: 0,
+                bytes: 0,
+                tokens: 0,
+                wakes: 0,
+                releases: 0,
+            },
+        }
     }
 }
 
+// The least sizes for `n` slots of capacity `c`.
+pub fn sizes(n: usize, c: usize) -> Result<Sizes, Errno>
+    ensures { least_told result ≡ least_of n c }
+{
+    if !table::sizes::in_range(n, c) {
+        return Err(Errno::EINVAL);
+    }
+    Ok(storage::least_sizes(n, c))
+}
+
 // A fresh table of `n` slots of capacity `c`, whatever stood in the storage.
-pub fn make(words: &mut [u64], bytes: &[u8], tokens: &[u32], n: usize, c: usize) -> Verdict
+pub fn make(
+    words: &mut [u64],
+    bytes: &[u8],
+    tokens: &[u32],
+    n: usize,
+    c: usize,
+) -> Result<(), Errno>
     ensures { Makes n c (lent words.old bytes.now tokens.now) (lent words.new bytes.now tokens.now) result }
 {
     table::make::make(words, bytes, tokens, n, c)
@@ -71,15 +91,13 @@ pub fn socket(
     domain: i32,
     ty: i32,
     protocol: i32,
-) -> Answer
-    ensures { Promise (Call.Socket domain ty protocol) n c (lent words.old bytes.now tokens.now) (lent words.new bytes.now tokens.now) (lists wakes.now releases.now) (lists wakes.now releases.now) result }
+) -> Result<Accepted, Errno>
+    ensures { Promise (Call.Socket domain ty protocol) n c (lent words.old bytes.now tokens.now) (lent words.new bytes.now tokens.now) (lists wakes.now releases.now) (lists wakes.now releases.now) (told result) }
 {
-    match table::admission(words, bytes, tokens, wakes, releases, n, c) {
-        Verdict::Refused(no) => promise::refused(no),
-        Verdict::Accepted => opening::socket_admitted(
-            words, bytes, tokens, wakes, releases, n, c, domain, ty, protocol,
-        ),
-    }
+    table::admission(words, bytes, tokens, wakes, releases, n, c)?;
+    opening::socket_admitted(
+        words, bytes, tokens, wakes, releases, n, c, domain, ty, protocol,
+    )
 }
 
 pub fn bind(
@@ -92,15 +110,11 @@ pub fn bind(
     c: usize,
     h: Handle,
     name: &[u8],
-) -> Answer
-    ensures { Promise (Call.Bind h.0 name.now) n c (lent words.old bytes.old tokens.now) (lent words.new bytes.new tokens.now) (lists wakes.now releases.now) (lists wakes.now releases.now) result }
+) -> Result<Accepted, Errno>
+    ensures { Promise (Call.Bind h.0 name.now) n c (lent words.old bytes.old tokens.now) (lent words.new bytes.new tokens.now) (lists wakes.now releases.now) (lists wakes.now releases.now) (told result) }
 {
-    match table::admission(words, bytes, tokens, wakes, releases, n, c) {
-        Verdict::Refused(no) => promise::refused(no),
-        Verdict::Accepted => opening::bind_admitted(
-            words, bytes, tokens, wakes, releases, n, c, h, name,
-        ),
-    }
+    table::admission(words, bytes, tokens, wakes, releases, n, c)?;
+    opening::bind_admitted(words, bytes, tokens, wakes, releases, n, c, h, name)
 }
 
 pub fn listen(
@@ -113,15 +127,11 @@ pub fn listen(
     c: usize,
     h: Handle,
     backlog: u32,
-) -> Answer
-    ensures { Promise (Call.Listen h.0 backlog) n c (lent words.old bytes.now tokens.now) (lent words.new bytes.now tokens.now) (lists wakes.old releases.now) (lists wakes.new releases.now) result }
+) -> Result<Accepted, Errno>
+    ensures { Promise (Call.Listen h.0 backlog) n c (lent words.old bytes.now tokens.now) (lent words.new bytes.now tokens.now) (lists wakes.old releases.now) (lists wakes.new releases.now) (told result) }
 {
-    match table::admission(words, bytes, tokens, wakes, releases, n, c) {
-        Verdict::Refused(no) => promise::refused(no),
-        Verdict::Accepted => accepting::listen_admitted(
-            words, bytes, tokens, wakes, releases, n, c, h, backlog,
-        ),
-    }
+    table::admission(words, bytes, tokens, wakes, releases, n, c)?;
+    accepting::listen_admitted(words, bytes, tokens, wakes, releases, n, c, h, backlog)
 }
 
 pub fn accept(
@@ -133,15 +143,11 @@ pub fn accept(
     n: usize,
     c: usize,
     h: Handle,
-) -> Answer
-    ensures { Promise (Call.Accept h.0) n c (lent words.old bytes.now tokens.now) (lent words.new bytes.now tokens.now) (lists wakes.old releases.now) (lists wakes.new releases.now) result }
+) -> Result<Accepted, Errno>
+    ensures { Promise (Call.Accept h.0) n c (lent words.old bytes.now tokens.now) (lent words.new bytes.now tokens.now) (lists wakes.old releases.now) (lists wakes.new releases.now) (told result) }
 {
-    match table::admission(words, bytes, tokens, wakes, releases, n, c) {
-        Verdict::Refused(no) => promise::refused(no),
-        Verdict::Accepted => accepting::accept_admitted(
-            words, bytes, tokens, wakes, releases, n, c, h,
-        ),
-    }
+    table::admission(words, bytes, tokens, wakes, releases, n, c)?;
+    accepting::accept_admitted(words, bytes, tokens, wakes, releases, n, c, h)
 }
 
 pub fn connect(
@@ -154,15 +160,11 @@ pub fn connect(
     c: usize,
     h: Handle,
     name: &[u8],
-) -> Answer
-    ensures { Promise (Call.Connect h.0 name.now) n c (lent words.old bytes.now tokens.now) (lent words.new bytes.now tokens.now) (lists wakes.old releases.now) (lists wakes.new releases.now) result }
+) -> Result<Accepted, Errno>
+    ensures { Promise (Call.Connect h.0 name.now) n c (lent words.old bytes.now tokens.now) (lent words.new bytes.now tokens.now) (lists wakes.old releases.now) (lists wakes.new releases.now) (told result) }
 {
-    match table::admission(words, bytes, tokens, wakes, releases, n, c) {
-        Verdict::Refused(no) => promise::refused(no),
-        Verdict::Accepted => pairing::connect_admitted(
-            words, bytes, tokens, wakes, releases, n, c, h, name,
-        ),
-    }
+    table::admission(words, bytes, tokens, wakes, releases, n, c)?;
+    pairing::connect_admitted(words, bytes, tokens, wakes, releases, n, c, h, name)
 }
 
 pub fn read(
@@ -175,16 +177,12 @@ pub fn read(
     c: usize,
     h: Handle,
     buf: &mut [u8],
-) -> Answer
-    ensures promise { Promise (Call.Read h.0 (length buf.old)) n c (lent words.old bytes.now tokens.now) (lent words.new bytes.now tokens.now) (lists wakes.old releases.old) (lists wakes.new releases.new) result }
+) -> Result<Accepted, Errno>
+    ensures promise { Promise (Call.Read h.0 (length buf.old)) n c (lent words.old bytes.now tokens.now) (lent words.new bytes.now tokens.now) (lists wakes.old releases.old) (lists wakes.new releases.new) (told result) }
     ensures promise_fills { PromiseFills (Call.Read h.0 (length buf.old)) n c (lent words.old bytes.now tokens.now) (lists wakes.old releases.old) buf.old buf.new [] [] }
 {
-    match table::admission(words, bytes, tokens, wakes, releases, n, c) {
-        Verdict::Refused(no) => promise::refused(no),
-        Verdict::Accepted => draining::read_admitted(
-            words, bytes, tokens, wakes, releases, n, c, h, buf,
-        ),
-    }
+    table::admission(words, bytes, tokens, wakes, releases, n, c)?;
+    draining::read_admitted(words, bytes, tokens, wakes, releases, n, c, h, buf)
 }
 
 pub fn recvmsg(
@@ -198,16 +196,12 @@ pub fn recvmsg(
     h: Handle,
     buf: &mut [u8],
     items: &mut [u32],
-) -> Answer
-    ensures promise { Promise (Call.Recvmsg h.0 (length buf.old) (length items.old)) n c (lent words.old bytes.now tokens.now) (lent words.new bytes.now tokens.now) (lists wakes.old releases.old) (lists wakes.new releases.new) result }
+) -> Result<Accepted, Errno>
+    ensures promise { Promise (Call.Recvmsg h.0 (length buf.old) (length items.old)) n c (lent words.old bytes.now tokens.now) (lent words.new bytes.now tokens.now) (lists wakes.old releases.old) (lists wakes.new releases.new) (told result) }
     ensures promise_fills { PromiseFills (Call.Recvmsg h.0 (length buf.old) (length items.old)) n c (lent words.old bytes.now tokens.now) (lists wakes.old releases.old) buf.old buf.new items.old items.new }
 {
-    match table::admission(words, bytes, tokens, wakes, releases, n, c) {
-        Verdict::Refused(no) => promise::refused(no),
-        Verdict::Accepted => draining::recvmsg_admitted(
-            words, bytes, tokens, wakes, releases, n, c, h, buf, items,
-        ),
-    }
+    table::admission(words, bytes, tokens, wakes, releases, n, c)?;
+    draining::recvmsg_admitted(words, bytes, tokens, wakes, releases, n, c, h, buf, items)
 }
 
 pub fn write(
@@ -220,15 +214,11 @@ pub fn write(
     c: usize,
     h: Handle,
     buf: &[u8],
-) -> Answer
-    ensures { Promise (Call.Write h.0 buf.now) n c (lent words.old bytes.old tokens.old) (lent words.new bytes.new tokens.new) (lists wakes.old releases.now) (lists wakes.new releases.now) result }
+) -> Result<Accepted, Errno>
+    ensures { Promise (Call.Write h.0 buf.now) n c (lent words.old bytes.old tokens.old) (lent words.new bytes.new tokens.new) (lists wakes.old releases.now) (lists wakes.new releases.now) (told result) }
 {
-    match table::admission(words, bytes, tokens, wakes, releases, n, c) {
-        Verdict::Refused(no) => promise::refused(no),
-        Verdict::Accepted => sending::write_admitted(
-            words, bytes, tokens, wakes, releases, n, c, h, buf,
-        ),
-    }
+    table::admission(words, bytes, tokens, wakes, releases, n, c)?;
+    sending::write_admitted(words, bytes, tokens, wakes, releases, n, c, h, buf)
 }
 
 pub fn sendmsg(
@@ -242,15 +232,11 @@ pub fn sendmsg(
     h: Handle,
     buf: &[u8],
     items: &[u32],
-) -> Answer
-    ensures { Promise (Call.Sendmsg h.0 buf.now items.now) n c (lent words.old bytes.old tokens.old) (lent words.new bytes.new tokens.new) (lists wakes.old releases.now) (lists wakes.new releases.now) result }
+) -> Result<Accepted, Errno>
+    ensures { Promise (Call.Sendmsg h.0 buf.now items.now) n c (lent words.old bytes.old tokens.old) (lent words.new bytes.new tokens.new) (lists wakes.old releases.now) (lists wakes.new releases.now) (told result) }
 {
-    match table::admission(words, bytes, tokens, wakes, releases, n, c) {
-        Verdict::Refused(no) => promise::refused(no),
-        Verdict::Accepted => sending::sendmsg_admitted(
-            words, bytes, tokens, wakes, releases, n, c, h, buf, items,
-        ),
-    }
+    table::admission(words, bytes, tokens, wakes, releases, n, c)?;
+    sending::sendmsg_admitted(words, bytes, tokens, wakes, releases, n, c, h, buf, items)
 }
 
 pub fn shutdown(
@@ -263,15 +249,11 @@ pub fn shutdown(
     c: usize,
     h: Handle,
     how: i32,
-) -> Answer
-    ensures { Promise (Call.Shutdown h.0 how) n c (lent words.old bytes.now tokens.now) (lent words.new bytes.now tokens.now) (lists wakes.old releases.old) (lists wakes.new releases.new) result }
+) -> Result<Accepted, Errno>
+    ensures { Promise (Call.Shutdown h.0 how) n c (lent words.old bytes.now tokens.now) (lent words.new bytes.now tokens.now) (lists wakes.old releases.old) (lists wakes.new releases.new) (told result) }
 {
-    match table::admission(words, bytes, tokens, wakes, releases, n, c) {
-        Verdict::Refused(no) => promise::refused(no),
-        Verdict::Accepted => shutting::shutdown_admitted(
-            words, bytes, tokens, wakes, releases, n, c, h, how,
-        ),
-    }
+    table::admission(words, bytes, tokens, wakes, releases, n, c)?;
+    shutting::shutdown_admitted(words, bytes, tokens, wakes, releases, n, c, h, how)
 }
 
 pub fn close(
@@ -283,13 +265,11 @@ pub fn close(
     n: usize,
     c: usize,
     h: Handle,
-) -> Answer
-    ensures { Promise (Call.Close h.0) n c (lent words.old bytes.now tokens.now) (lent words.new bytes.now tokens.now) (lists wakes.old releases.old) (lists wakes.new releases.new) result }
+) -> Result<Accepted, Errno>
+    ensures { Promise (Call.Close h.0) n c (lent words.old bytes.now tokens.now) (lent words.new bytes.now tokens.now) (lists wakes.old releases.old) (lists wakes.new releases.new) (told result) }
 {
-    match table::admission(words, bytes, tokens, wakes, releases, n, c) {
-        Verdict::Refused(no) => promise::refused(no),
-        Verdict::Accepted => ending::close_admitted(words, bytes, tokens, wakes, releases, n, c, h),
-    }
+    table::admission(words, bytes, tokens, wakes, releases, n, c)?;
+    ending::close_admitted(words, bytes, tokens, wakes, releases, n, c, h)
 }
 
 pub fn readiness(
@@ -301,13 +281,9 @@ pub fn readiness(
     n: usize,
     c: usize,
     h: Handle,
-) -> Answer
-    ensures { Promise (Call.Readiness h.0) n c (lent words.now bytes.now tokens.now) (lent words.now bytes.now tokens.now) (lists wakes.now releases.now) (lists wakes.now releases.now) result }
+) -> Result<Accepted, Errno>
+    ensures { Promise (Call.Readiness h.0) n c (lent words.now bytes.now tokens.now) (lent words.now bytes.now tokens.now) (lists wakes.now releases.now) (lists wakes.now releases.now) (told result) }
 {
-    match table::admission(words, bytes, tokens, wakes, releases, n, c) {
-        Verdict::Refused(no) => promise::refused(no),
-        Verdict::Accepted => readying::readiness_admitted(
-            words, bytes, tokens, wakes, releases, n, c, h,
-        ),
-    }
+    table::admission(words, bytes, tokens, wakes, releases, n, c)?;
+    readying::readiness_admitted(words, bytes, tokens, wakes, releases, n, c, h)
 }

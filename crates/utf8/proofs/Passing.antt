@@ -1,16 +1,19 @@
--- How the syntax's test goes on by one octet, at a place of a string.
-use mathlib.Core.Path.{◌≡◌, refl, ◌∙◌, ap}
+-- How the syntax's test goes on behind the octets that are due.
+use mathlib.Core.Path.{◌≡◌, refl, sym, ◌∙◌, ap}
 use mathlib.Core.Bool.{Bool, true, false, ◌&&◌, and-false}
-use mathlib.Core.List.{List, [], ◌∷◌}
-use Prim.Native.Nat.{ℕ, suc, ◌+◌, ◌-◌, ◌<◌, ◌≤◌}
+use mathlib.Core.List.{List, [], ◌∷◌, ◌++◌}
+use Prim.Native.Nat.{ℕ, zero, suc, ◌+◌, ◌-◌, ◌<◌, ◌≤◌}
 use native.Mathlib.Omega.{arith}
-use native.Mathlib.Numerals.{add-one}
-use borrow.Author.Tests.{le-leb, lt-leb, ne_eqb}
+use borrow.Author.Tests.{le-leb, lt-leb}
 use lib.Dec.{leb}
-use lib.ListN.{length, get_or, drop, replicate, length-drop, length-replicate}
-use lib.Seq.{drop-cons}
-use Rattle.utf8.specs.Syntax.{Range, octets, has, rows, starts, follow, passes, tail}
-use Rattle.utf8.specs.Steps.{Tails}
+use denote.Ref.{Bor}
+use lib.ListN.{length, get_or, take, drop, replicate, length-take, length-drop, length-replicate}
+use Rattle.std.proofs.Math.Bool.{and_assoc}
+use Rattle.std.proofs.lemmas.List.{take_all, take-append-drop, drop-drop}
+use Rattle.std.specs.Bool.{then_some}
+use Rattle.std.specs.List.{IsSplitAt, list_all}
+use Rattle.utf8.specs.Syntax.{Range, octets, has, passes, tail}
+use Rattle.utf8.specs.Steps.{After}
 
 -- a range from its two tests
 pub inside : (a b x : ℕ) → a ≤ x → x ≤ b → has (octets a b) x ≡ true
@@ -32,67 +35,55 @@ few [] s h = absurd (let z : 1 ≤ 0 = omega arith in omega arith)
 few (r ∷ due) [] h = refl
 few (r ∷ due) (b ∷ s) h = rw (few due s (omega arith), and-false (has r b))
 
--- one more of those that are due, and the first of a character
-pub next : (r : Range) (due : List Range) (s : List ℕ) (at : ℕ) → at < length s → passes (r ∷ due) (drop at s) ≡ has r (get_or s at 0) && passes due (drop (at + 1) s)
+pub short : (r : Range) (more : ℕ) (s : List ℕ) → length s < more + 1 → passes (r ∷ replicate more tail) s ≡ false
+short r more s h = few (r ∷ replicate more tail) s (let e = length-replicate more tail in omega arith)
+
+-- as many tails as are due
+run : (k : ℕ) (xs rest : List ℕ) → length xs ≡ k → passes (replicate k tail) (xs ++ rest) ≡ list_all (has tail) xs && passes [] rest
 unfolding passes
-next r due s at h = rw (drop-cons s at 0 h, add-one at)
+run zero [] rest e = refl
+run zero (x ∷ xs) rest e = absurd (omega arith)
+run (suc k) [] rest e = absurd (omega arith)
+run (suc k) (x ∷ xs) rest e = rw (run k xs rest (omega arith), and_assoc)
 
-pub first : (s : List ℕ) (at : ℕ) → at < length s
-    → passes [] (drop at s) ≡ starts rows (get_or s at 0) && passes (follow rows (get_or s at 0)) (drop (at + 1) s)
-unfolding passes
-first s at h = rw (drop-cons s at 0 h, add-one at)
+-- ── The returns of `after_tails` ──
 
--- ── The returns of `tails` ──
+module _ (low high more : ℕ) where
+  abbrev pub due : List Range
+  due = octets low high ∷ replicate more tail
 
-abbrev due : ℕ → ℕ → ℕ → List Range
-due n low high = octets low high ∷ replicate (n - 2) tail
+  split : (s tails rest : List ℕ) → 1 ≤ length s → IsSplitAt (take (length s - 1) (drop 1 s)) more tails rest
+      → passes due s ≡ has (octets low high) (get_or s 0 0) && (list_all (has tail) tails && passes [] rest)
+  unfolding passes
+  split [] tails rest some p = absurd (omega arith)
+  split (x ∷ xs) tails rest some p =
+      let whole : take (length (x ∷ xs) - 1) xs ≡ xs = take_all _ xs (omega arith) in
+      let e : tails ++ rest ≡ xs = rw (p.1, p.2, whole) (take-append-drop more xs) in
+      ap (λ (b : Bool). has (octets low high) x && b) (ap (passes (replicate more tail)) (sym e) ∙ run more tails rest p.3)
 
--- no character: 0
-none : (s : List ℕ) (at n low high : ℕ) → at < length s → passes (due n low high) (drop (at + 1) s) ≡ false → Tails s at n low high 0
-none s at n low high h p = record { same = p; within = omega arith }
+  outside : (s : List ℕ) → has (octets low high) (get_or s 0 0) ≡ false → passes due s ≡ false
+  unfolding passes
+  outside [] e = refl
+  outside (x ∷ xs) e = ap (λ (b : Bool). b && passes (replicate more tail) xs) e
 
-module _ (s : List ℕ) (at n low high : ℕ) (pre : (at < length s) × (2 ≤ n) × (n ≤ 4)) where
-  pub cut : length s - at < n → Tails s at n low high 0
-  cut h =
-      none s at n low high pre.0
-      (few (due n low high) (drop (at + 1) s) (let e = length-drop (at + 1) s in let f = length-replicate (n - 2) tail in rw (e, f) (omega arith)))
+  pub too_low : (s : List ℕ) → get_or s 0 0 < low → passes due s ≡ false
+  too_low s h = outside s (under low high (get_or s 0 0) h)
 
-  module _ (whole : n ≤ length s - at) where
-    second : passes (due n low high) (drop (at + 1) s) ≡ has (octets low high) (get_or s (at + 1) 0) && passes (replicate (n - 2) tail) (drop (at + 1 + 1) s)
-    second = next (octets low high) (replicate (n - 2) tail) s (at + 1) (omega arith)
+  pub too_high : (s : List ℕ) → high < get_or s 0 0 → passes due s ≡ false
+  too_high s h = outside s (over low high (get_or s 0 0) h)
 
-    pub too_low : get_or s (at + 1) 0 < low → Tails s at n low high 0
-    too_low h = none s at n low high pre.0 (second ∙ ap (λ (b : Bool). b && passes (replicate (n - 2) tail) (drop (at + 1 + 1) s)) (under low high (get_or s (at + 1) 0) h))
+  module _ (s tails : List ℕ) (rest : Bor (List ℕ)) (some : 1 ≤ length s) (at : IsSplitAt (take (length s - 1) (drop 1 s)) more tails rest.now) (h : low ≤ get_or s 0 0) (k : get_or s 0 0 ≤ high) where
+    value : passes due s ≡ list_all (has tail) tails && passes [] rest.now
+    value = split s tails rest.now some at ∙ ap (λ (b : Bool). b && (list_all (has tail) tails && passes [] rest.now)) (inside low high (get_or s 0 0) h k)
 
-    pub too_high : high < get_or s (at + 1) 0 → Tails s at n low high 0
-    too_high h = none s at n low high pre.0 (second ∙ ap (λ (b : Bool). b && passes (replicate (n - 2) tail) (drop (at + 1 + 1) s)) (over low high (get_or s (at + 1) 0) h))
-
-    -- where the loop begins: the second octet is right
-    pub begun : low ≤ get_or s (at + 1) 0 → get_or s (at + 1) 0 ≤ high → passes (due n low high) (drop (at + 1) s) ≡ passes (replicate (n - 2) tail) (drop (at + 2) s)
-    begun h k =
-        let e : at + 1 + 1 ≡ at + 2 = omega arith in
-        second ∙ ap (λ (b : Bool). b && passes (replicate (n - 2) tail) (drop (at + 1 + 1) s)) (inside low high (get_or s (at + 1) 0) h k)
-        ∙ ap (λ (m : ℕ). passes (replicate (n - 2) tail) (drop m s)) e
-
-    -- at its head
-    module _ (i : ℕ) (m : i < n) (so : passes (due n low high) (drop (at + 1) s) ≡ passes (replicate (n - i) tail) (drop (at + i) s)) where
-      one : passes (replicate (n - i) tail) (drop (at + i) s) ≡ has tail (get_or s (at + i) 0) && passes (replicate (n - (i + 1)) tail) (drop (at + (i + 1)) s)
-      one =
-          let e : n - i ≡ suc (n - (i + 1)) = omega arith in
-          let f : at + (i + 1) ≡ at + i + 1 = omega arith in
-          rw (e, f) (next tail (replicate (n - (i + 1)) tail) s (at + i) (omega arith))
-
-      pub tail_low : get_or s (at + i) 0 < 0x80 → Tails s at n low high 0
-      tail_low h = none s at n low high pre.0 (so ∙ one ∙ ap (λ (b : Bool). b && passes (replicate (n - (i + 1)) tail) (drop (at + (i + 1)) s)) (under 0x80 0xBF (get_or s (at + i) 0) h))
-
-      pub tail_high : 0xBF < get_or s (at + i) 0 → Tails s at n low high 0
-      tail_high h = none s at n low high pre.0 (so ∙ one ∙ ap (λ (b : Bool). b && passes (replicate (n - (i + 1)) tail) (drop (at + (i + 1)) s)) (over 0x80 0xBF (get_or s (at + i) 0) h))
-
-      pub on : 0x80 ≤ get_or s (at + i) 0 → get_or s (at + i) 0 ≤ 0xBF → passes (due n low high) (drop (at + 1) s) ≡ passes (replicate (n - (i + 1)) tail) (drop (at + (i + 1)) s)
-      on h k = so ∙ one ∙ ap (λ (b : Bool). b && passes (replicate (n - (i + 1)) tail) (drop (at + (i + 1)) s)) (inside 0x80 0xBF (get_or s (at + i) 0) h k)
-
-    pub all : (i : ℕ) → n ≤ i → i ≤ n → passes (due n low high) (drop (at + 1) s) ≡ passes (replicate (n - i) tail) (drop (at + i) s) → Tails s at n low high n
-    all i a b so =
-        let e : i ≡ n = omega arith in
-        let z : n - i ≡ 0 = omega arith in
-        record { same = rw (ne_eqb n 0 (λ q. omega arith)) (so ∙ rw (z, e)); within = omega arith }
+    pub told : (r : Bool) → r ≡ list_all (has tail) tails → After due s (then_some r rest)
+    told false e = value ∙ rw (sym e)
+    told true e =
+        let f : length (take (length s - 1) (drop 1 s)) ≡ length s - 1 = simp (length-take, length-drop) (omega arith) in
+        let whole : take (length s - 1) (drop 1 s) ≡ drop 1 s = take_all _ (drop 1 s) (simp length-drop (omega arith)) in
+        let n : length s - length rest.now ≡ 1 + more = omega arith in
+        record {
+          fewer = omega arith;
+          end = rw (n, at.2, whole, drop-drop);
+          same = value ∙ rw (sym e);
+        }

@@ -1,16 +1,17 @@
--- Which row of the syntax a first octet is in: one law for each test of `char_len`.
-use mathlib.Core.Path.{◌≡◌, refl, sym, ◌∙◌, ap}
+-- Which row of the syntax a first octet is in: one law for each arm of `after_char`.
+use mathlib.Core.Path.{◌≡◌, refl, sym, ◌∙◌}
 use mathlib.Core.Bool.{true, false}
 use mathlib.Core.List.{List, [], ◌∷◌}
 use mathlib.Core.Logic.{⊎_elim}
-use Prim.Native.Nat.{ℕ, ◌+◌, ◌-◌, ◌<◌, ◌≤◌}
+use denote.Ref.{Bor}
+use Rattle.std.specs.Prelude.{Option, Some, None}
+use Prim.Native.Nat.{ℕ, suc, ◌-◌, ◌<◌, ◌≤◌}
 use native.Mathlib.Omega.{arith}
-use lib.ListN.{length, get_or, drop, replicate, drop_of_length-le}
-use borrow.Author.Tests.{eq-eqb, ne_eqb}
+use lib.ListN.{length}
 use Rattle.laws.proofs.Tests.{less_or}
 use Rattle.utf8.specs.Syntax.{Range, octets, has, rows, starts, follow, passes, tail, is_utf8}
-use Rattle.utf8.specs.Steps.{Step, Tails}
-use Rattle.utf8.proofs.Passing.{inside, under, over, first}
+use Rattle.utf8.specs.Steps.{Behind, After}
+use Rattle.utf8.proofs.Passing.{inside, under, over}
 
 pub record In (b : ℕ) (rest : List Range) : Type 0 where
   pub begins : starts rows b ≡ true
@@ -29,7 +30,7 @@ module _ (b : ℕ) where
       let z = inside 0xC2 0xDF b h (omega arith) in
       record { begins = rw (a, z); then = rw (a, z) }
 
-  E1-EC : 0xE0 < b → b < 0xED → In b (tail ∷ tail ∷ [])
+  pub E1-EC : 0xE0 < b → b < 0xED → In b (tail ∷ tail ∷ [])
   unfolding starts follow
   E1-EC h k =
       let a = over 0x00 0x7F b (omega arith) in
@@ -38,7 +39,7 @@ module _ (b : ℕ) where
       let z = inside 0xE1 0xEC b h (omega arith) in
       record { begins = rw (a, d, e, z); then = rw (a, d, e, z) }
 
-  EE-EF : 0xED < b → b < 0xF0 → In b (tail ∷ tail ∷ [])
+  pub EE-EF : 0xED < b → b < 0xF0 → In b (tail ∷ tail ∷ [])
   unfolding starts follow
   EE-EF h k =
       let a = over 0x00 0x7F b (omega arith) in
@@ -92,35 +93,35 @@ pub F4 : {b : ℕ} → b ≡ 0xF4 → In b (octets 0x80 0x8F ∷ tail ∷ tail �
 unfolding starts follow has
 F4 e = rw e (record { begins = refl; then = refl })
 
--- ── The returns of `char_len` ──
+-- ── The returns of `after_char` ──
 
-module _ (s : List ℕ) (at : ℕ) (h : at < length s) where
-  goes : {rest : List Range} → In (get_or s at 0) rest → passes [] (drop at s) ≡ passes rest (drop (at + 1) s)
-  goes {rest} i = first s at h ∙ rw (i.begins, i.then)
+module _ (b : ℕ) (s : List ℕ) where
+  goes : {due : List Range} → In b due → passes [] (b ∷ s) ≡ passes due s
+  unfolding passes
+  goes i = rw (i.begins, i.then)
 
-  -- a character of one octet, of the octets that `tails` looked at, and none
-  pub one : In (get_or s at 0) [] → Step s at 1
-  one i = record { same = goes i; within = omega arith }
+  pub one : In b [] → Behind [] (b ∷ s) s
+  one i =
+      let n : length (b ∷ s) - length s ≡ 1 = omega arith in
+      record { fewer = omega arith; end = rw n; same = goes i }
 
-  pub more : {n low high r : ℕ} → In (get_or s at 0) (octets low high ∷ replicate (n - 2) tail) → Tails s at n low high r → Step s at r
-  more i t = record { same = goes i ∙ t.same; within = t.within }
+  pub more : {due : List Range} → In b due → (r : Option (Bor (List ℕ))) → After due s r → After [] (b ∷ s) r
+  more i None h = goes i ∙ h
+  more i (Some rest) h =
+      let n : length (b ∷ s) - length rest.now ≡ suc (length s - length rest.now) = let k = h.fewer in omega arith in
+      record { fewer = let k = h.fewer in omega arith; end = h.end ∙ rw n; same = goes i ∙ h.same }
 
-  pub stop : starts rows (get_or s at 0) ≡ false → Step s at 0
-  stop e = record { same = first s at h ∙ rw e; within = omega arith }
+  pub stop : starts rows b ≡ false → After [] (b ∷ s) None
+  unfolding passes
+  stop e = rw e
 
 -- ── The loop of `is_utf8` ──
 
-module _ (s : List ℕ) (i n : ℕ) (so : is_utf8 s ≡ passes [] (drop i s)) (step : Step s i n) where
-  pub no : n ≡ 0 → false ≡ is_utf8 s
-  no e = sym (so ∙ step.same ∙ rw (eq-eqb n 0 e))
-
-  pub on : (n ≡ 0 → ⊥) → is_utf8 s ≡ passes [] (drop (i + n) s)
-  on e = so ∙ step.same ∙ rw (ne_eqb n 0 e)
-
-pub whole : (s : List ℕ) → is_utf8 s ≡ passes [] (drop 0 s)
+pub whole : (s : List ℕ) → is_utf8 s ≡ passes [] s
 unfolding is_utf8
 whole s = refl
 
-pub end : (s : List ℕ) (i : ℕ) → length s ≤ i → is_utf8 s ≡ passes [] (drop i s) → true ≡ is_utf8 s
+pub end : (s left : List ℕ) → length left < 1 → is_utf8 s ≡ passes [] left → true ≡ is_utf8 s
 unfolding passes
-end s i h so = sym (so ∙ ap (passes []) (drop_of_length-le s h))
+end s [] h so = sym so
+end s (b ∷ left) h so = absurd (omega arith)

@@ -1,12 +1,14 @@
 -- What the functions under `is_utf8` promise each other.
-use Rattle.std.specs.Prelude.{◌≡◌, false, cond, List, [], ◌∷◌, ℕ, ◌+◌, ◌-◌, ◌≤◌, eqb, length, drop, replicate}
-use Rattle.utf8.specs.Syntax.{passes, octets, tail}
+use Rattle.std.specs.Prelude.{◌≡◌, false, List, [], ℕ, ◌-◌, ◌<◌, length, drop, Option, MatchOption}
+use Rattle.utf8.specs.Syntax.{Range, passes}
+use denote.Ref.{Bor}
 
--- `due` is wanted at `at + 1`: r bytes from `at` on give all of it, or nothing does and r is 0
-pub record Step (s : List ℕ) (at r : ℕ) : Type 0 where
-  pub same : passes [] (drop at s) ≡ cond (eqb r 0) false (passes [] (drop (at + r) s))
-  pub within : at + r ≤ length s
+-- `rest` is the end of s that lies behind all that is due
+pub record Behind (due : List Range) (s rest : List ℕ) : Type 0 where
+  pub fewer : length rest < length s
+  pub end : rest ≡ drop (length s - length rest) s
+  pub same : passes due s ≡ passes [] rest
 
-pub record Tails (s : List ℕ) (at n low high r : ℕ) : Type 0 where
-  pub same : passes (octets low high ∷ replicate (n - 2) tail) (drop (at + 1) s) ≡ cond (eqb r 0) false (passes [] (drop (at + r) s))
-  pub within : at + r ≤ length s
+-- what lies behind all that is due, or none where s does not begin so
+abbrev pub After : List Range → List ℕ → Option (Bor (List ℕ)) → Type 0
+After due s r = MatchOption r (passes due s ≡ false) (λ rest. Behind due s rest.now)

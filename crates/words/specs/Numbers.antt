@@ -1,9 +1,7 @@
 -- Document 01, "Numbers a caller may get back".
-use Rattle.std.specs.Prelude.{ℕ}
+use Rattle.std.specs.Prelude.{ℕ, Result, Ok, Err}
 use Rattle.words.specs.declared.Errno.{Errno}
 use Rattle.words.specs.declared.Errno.TheVariants.{EBADF, EINVAL, EADDRINUSE, EDESTADDRREQ, EISCONN, EOPNOTSUPP, ECONNREFUSED, EAGAIN, ENOTCONN, EPIPE, ENOBUFS, EAFNOSUPPORT, EMSGSIZE, EPROTOTYPE, EPROTONOSUPPORT, ENFILE, ENAMETOOLONG, SHORT, DAMAGED}
-use Rattle.words.specs.declared.Verdict.{Verdict}
-use Rattle.words.specs.declared.Answer.{Answer}
 
 abbrev pub number_of : Errno → ℕ
 number_of EBADF = 1
@@ -26,16 +24,12 @@ number_of ENAMETOOLONG = 17
 number_of SHORT = 18
 number_of DAMAGED = 19
 
--- "An accepted call without a value answers 0."
-abbrev pub refusal_of : Verdict → ℕ
-refusal_of Verdict.Accepted = 0
-refusal_of (Verdict.Refused e) = number_of e
+-- 01's number of an answer. "An accepted call without a value answers 0."
+abbrev pub refusal_of : {T : Type 0} → Result T Errno → ℕ
+refusal_of (Ok x) = 0
+refusal_of (Err e) = number_of e
 
--- an answer that is a number or a refusal: 01's number, and the value, which a refusal does not have
-abbrev pub answer_no : Answer → ℕ
-answer_no (Answer.Is n) = 0
-answer_no (Answer.Refused e) = number_of e
-
-abbrev pub answer_value : Answer → ℕ
-answer_value (Answer.Is n) = n
-answer_value (Answer.Refused e) = 0
+-- the number that a question asked for, which a refusal does not have
+abbrev pub answer_value : Result ℕ Errno → ℕ
+answer_value (Ok n) = n
+answer_value (Err e) = 0

@@ -17,7 +17,7 @@ load-slot-requires c = search live-in
 pub returns-in_default : goal.returns-in_default
 returns-in_default c =
     let a = c.args in
-    accept_not a.n a.c (lent a.words.now a.bytes.now a.tokens.now) (lists a.wakes.now a.releases.now) a.h.0 c.refused-in_default.result c.is_live.result c.is_live.ensures (ap not c.if-not-is_live.false) c.slot_of-i.result c.slot_of-i.ensures c.load-slot.result c.load-slot.ensures c.in_default.not-Listening c.refused-in_default.ensures
+    accept_not a.n a.c (lent a.words.now a.bytes.now a.tokens.now) (lists a.wakes.now a.releases.now) a.h.0 _ c.is_live.result c.is_live.ensures (ap not c.if-not-is_live.false) c.slot_of-i.result c.slot_of-i.ensures c.load-slot.result c.load-slot.ensures c.in_default.not-Listening refl
 
 pub returns-then-listener-eq0 : goal.returns-then-listener-eq0
 returns-then-listener-eq0 c = search accept_none
@@ -35,7 +35,7 @@ load-pending-requires c =
 pub returns-in_default-state : goal.returns-in_default-state
 returns-in_default-state c =
     let a = c.args in
-    accept_damaged a.n a.c (lent a.words.now a.bytes.now a.tokens.now) (lists a.wakes.now a.releases.now) a.h.0 c.refused-in_default-state.result c.is_live.result c.is_live.ensures (ap not c.if-not-is_live.false) c.slot_of-i.result c.slot_of-i.ensures c.load-slot.result c.load-slot.ensures c.in-Listening.listener c.in-Listening.is (known c.requires) c.if-listener-eq0.false c.entry-server.result.0 c.entry-server.ensures c.slot_of-j.result c.slot_of-j.ensures c.load-pending.result c.load-pending.ensures c.in_default-state.not-Connected
+    accept_damaged a.n a.c (lent a.words.now a.bytes.now a.tokens.now) (lists a.wakes.now a.releases.now) a.h.0 _ c.is_live.result c.is_live.ensures (ap not c.if-not-is_live.false) c.slot_of-i.result c.slot_of-i.ensures c.load-slot.result c.load-slot.ensures c.in-Listening.listener c.in-Listening.is (known c.requires) c.if-listener-eq0.false c.entry-server.result.0 c.entry-server.ensures c.slot_of-j.result c.slot_of-j.ensures c.load-pending.result c.load-pending.ensures c.in_default-state.not-Connected
 
 pub overflow_add-listener : goal.overflow_add-listener
 overflow_add-listener c =
@@ -63,4 +63,4 @@ bounds-wakes-0 c = some_wake c.requires
 pub returns : goal.returns
 returns c =
     let a = c.args in
-    accept_made a.n a.c (lent a.words.now a.bytes.now a.tokens.now) (lists a.wakes.now a.releases.now) a.h.0 c.accepted.result c.is_live.result c.is_live.ensures (ap not c.if-not-is_live.false) c.slot_of-i.result c.slot_of-i.ensures c.load-slot.result c.load-slot.ensures c.in-Listening.listener c.in-Listening.is (known c.requires) c.if-listener-eq0.false c.entry-server.result.0 c.entry-server.ensures c.slot_of-j.result c.slot_of-j.ensures c.load-pending.result c.load-pending.ensures c.in-Connected.connection c.in-Connected.is c.place.result c.place.ensures _ _ _ c.store.ensures c.store-2.ensures refl refl c.accepted.ensures
+    accept_made a.n a.c (lent a.words.now a.bytes.now a.tokens.now) (lists a.wakes.now a.releases.now) a.h.0 _ c.is_live.result c.is_live.ensures (ap not c.if-not-is_live.false) c.slot_of-i.result c.slot_of-i.ensures c.load-slot.result c.load-slot.ensures c.in-Listening.listener c.in-Listening.is (known c.requires) c.if-listener-eq0.false c.entry-server.result.0 c.entry-server.ensures c.slot_of-j.result c.slot_of-j.ensures c.load-pending.result c.load-pending.ensures c.in-Connected.connection c.in-Connected.is c.place.result c.place.ensures _ _ _ c.store.ensures c.store-2.ensures refl refl c.new.ensures

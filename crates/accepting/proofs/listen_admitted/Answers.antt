@@ -24,8 +24,8 @@ store-requires-in-Listening c = search live-in
 pub returns-then-listener-backlog : goal.returns-then-listener-backlog
 returns-then-listener-backlog c =
     let a = c.args in
-    listen_more a.n a.c (lent a.words.now a.bytes.now a.tokens.now) (lists a.wakes.now a.releases.now) a.h.0 a.backlog c.accepted-then-listener-backlog.result c.is_live.result c.is_live.ensures (ap not c.if-not-is_live.false)
-    c.slot_of-i.result c.slot_of-i.ensures c.load-slot.result c.load-slot.ensures (known c.requires) (omega (arith, c.ranges.backlog)) _ _ (search c.in-Listening.is) c.store-in-Listening.ensures _ c.if-listener-backlog.true refl refl c.accepted-then-listener-backlog.ensures
+    listen_more a.n a.c (lent a.words.now a.bytes.now a.tokens.now) (lists a.wakes.now a.releases.now) a.h.0 a.backlog _ c.is_live.result c.is_live.ensures (ap not c.if-not-is_live.false)
+    c.slot_of-i.result c.slot_of-i.ensures c.load-slot.result c.load-slot.ensures (known c.requires) (omega (arith, c.ranges.backlog)) _ _ (search c.in-Listening.is) c.store-in-Listening.ensures _ c.if-listener-backlog.true refl refl c.new-then-listener-backlog.ensures
 
 pub returns-in-Closed : goal.returns-in-Closed
 returns-in-Closed c = search listen_closed
@@ -39,8 +39,8 @@ returns-in-Bound c = search (listen_bound, known)
 pub returns-else-listener-backlog : goal.returns-else-listener-backlog
 returns-else-listener-backlog c =
     let a = c.args in
-    listen_less a.n a.c (lent a.words.now a.bytes.now a.tokens.now) (lists a.wakes.now a.releases.now) a.h.0 a.backlog c.accepted-in-Listening.result c.is_live.result c.is_live.ensures (ap not c.if-not-is_live.false)
-    c.slot_of-i.result c.slot_of-i.ensures c.load-slot.result c.load-slot.ensures (known c.requires) (omega (arith, c.ranges.backlog)) _ _ (search c.in-Listening.is) c.store-in-Listening.ensures c.if-listener-backlog.false c.accepted-in-Listening.ensures
+    listen_less a.n a.c (lent a.words.now a.bytes.now a.tokens.now) (lists a.wakes.now a.releases.now) a.h.0 a.backlog _ c.is_live.result c.is_live.ensures (ap not c.if-not-is_live.false)
+    c.slot_of-i.result c.slot_of-i.ensures c.load-slot.result c.load-slot.ensures (known c.requires) (omega (arith, c.ranges.backlog)) _ _ (search c.in-Listening.is) c.store-in-Listening.ensures c.if-listener-backlog.false c.new-in-Listening.ensures
 
 pub returns-in-Connected : goal.returns-in-Connected
 returns-in-Connected c = search listen_connected

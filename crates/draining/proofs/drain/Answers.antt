@@ -1,3 +1,4 @@
+use mathlib.Core.Path.{refl}
 use lib.ListN.{length}
 use Rattle.inbox.specs.Promise.{policy_of}
 use Rattle.promise.specs.Promise.{lists}
@@ -18,7 +19,7 @@ returns-in_default c =
     let pre = c.requires in
     let i = c.slot_of-i in
     let s = c.load-slot in
-    drains_apart pre.admitted a.h.0 pre.live i.result i.ensures s.result s.ensures (policy_of a.policy (length a.items.now)) a.buf.now a.items.now (lists a.wakes.now a.releases.now) c.refused.result c.in_default.not-Connected c.refused.ensures
+    drains_apart pre.admitted a.h.0 pre.live i.result i.ensures s.result s.ensures (policy_of a.policy (length a.items.now)) a.buf.now a.items.now (lists a.wakes.now a.releases.now) _ c.in_default.not-Connected refl
 
 pub returns-then-queued-eq0 : goal.returns-then-queued-eq0
 returns-then-queued-eq0 c =
@@ -29,7 +30,7 @@ returns-then-queued-eq0 c =
     let k = c.in-Connected.is in
     let g = c.is_open-peer_open in
     let q = c.queued in
-    drains_none pre.admitted a.h.0 pre.live i.result i.ensures s.result s.ensures c.in-Connected.connection (search k) g.result g.ensures q.result q.ensures (policy_of a.policy (length a.items.now)) a.buf.now a.items.now (lists a.wakes.now a.releases.now) c.nothing_queued.result c.if-queued-eq0.true c.nothing_queued.ensures
+    drains_none pre.admitted a.h.0 pre.live i.result i.ensures s.result s.ensures c.in-Connected.connection (search k) g.result g.ensures q.result q.ensures (policy_of a.policy (length a.items.now)) a.buf.now a.items.now (lists a.wakes.now a.releases.now) _ c.if-queued-eq0.true c.nothing_queued.ensures
 
 pub take-taken-requires : goal.take-taken-requires
 take-taken-requires c =

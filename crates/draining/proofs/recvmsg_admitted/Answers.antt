@@ -1,3 +1,4 @@
+use mathlib.Core.Path.{refl}
 use Rattle.promise.specs.Promise.{lists}
 use Rattle.promise.proofs.Asked.{live_asked}
 use Rattle.draining.proofs.Draining.{recvmsg_stale, recvmsg_empty, recvmsg_drains}
@@ -10,7 +11,7 @@ returns-then-not-is_live c =
     let a = c.args in
     let pre = c.requires in
     let f = c.is_live in
-    let m = recvmsg_stale pre a.h.0 f.result f.ensures a.buf.now a.items.now (lists a.wakes.now a.releases.now) c.refused.result (ap not c.if-not-is_live.true) c.refused.ensures in
+    let m = recvmsg_stale pre a.h.0 f.result f.ensures a.buf.now a.items.now (lists a.wakes.now a.releases.now) _ (ap not c.if-not-is_live.true) refl in
     record { runs = m.0; fills = m.1 }
 
 pub returns-then-buf-eq0 : goal.returns-then-buf-eq0
@@ -18,7 +19,7 @@ returns-then-buf-eq0 c =
     let a = c.args in
     let pre = c.requires in
     let f = c.is_live in
-    let m = recvmsg_empty pre a.h.0 f.result f.ensures (ap not c.if-not-is_live.false) a.buf.now a.items.now (lists a.wakes.now a.releases.now) c.refused-then-buf-eq0.result c.if-buf-eq0.true c.refused-then-buf-eq0.ensures in
+    let m = recvmsg_empty pre a.h.0 f.result f.ensures (ap not c.if-not-is_live.false) a.buf.now a.items.now (lists a.wakes.now a.releases.now) _ c.if-buf-eq0.true refl in
     record { runs = m.0; fills = m.1 }
 
 pub drain-requires : goal.drain-requires

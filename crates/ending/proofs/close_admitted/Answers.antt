@@ -30,8 +30,8 @@ end_listener-requires c =
     let z = listener_told a.n a.c (lent a.words.now a.bytes.now a.tokens.now) a.wakes.now a.releases.now a.h.0 v.result v.ensures (record { refusal = 0; flags = 0; value = 0; items = 0; wakes = 0; releases = 0 }) (known p) d i.result i.ensures s.result s.ensures c.in-Listening.listener (search k) in
     record { admitted = p; live = z.0; listens = (z.1, z.2) }
 
-pub end-requires : goal.end-requires
-end-requires c =
+pub end-done-requires : goal.end-done-requires
+end-done-requires c =
     let a = c.args in
     let p = c.requires in
     let v = c.is_live in
@@ -58,5 +58,5 @@ returns-in-Connected c =
     let s = c.load-slot in
     let d = (ap not c.if-not-is_live.false) in
     let k = c.in-Connected.is in
-    let e = c.end in
-    connected_closed a.n a.c (lent a.words.now a.bytes.now a.tokens.now) a.wakes.now a.releases.now a.h.0 v.result v.ensures c.closed.result (known p) d i.result i.ensures s.result s.ensures c.in-Connected.connection (search k) _ _ _ e.result e.ensures c.closed.ensures
+    let e = c.end-done in
+    connected_closed a.n a.c (lent a.words.now a.bytes.now a.tokens.now) a.wakes.now a.releases.now a.h.0 v.result v.ensures _ (known p) d i.result i.ensures s.result s.ensures c.in-Connected.connection (search k) _ _ _ e.result e.ensures c.releasing.ensures

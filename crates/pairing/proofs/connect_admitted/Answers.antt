@@ -1,3 +1,5 @@
+use mathlib.Core.Path.{refl, sym}
+use borrow.Author.Tests.{eqb-true, eqb-false}
 use Rattle.pairing.proofs.Reaching.{connect_stale, connect_unnamed, connect_long, connect_closed, connect_unbound, connect_bound, connect_listening, connect_connected}
 use Rattle.storage.specs.Rows.{lent}
 use Rattle.promise.specs.Promise.{lists}
@@ -10,14 +12,14 @@ use Rattle.pairing.proofs.connect_admitted.Goals as goal
 pub returns-then-not-is_live : goal.returns-then-not-is_live
 returns-then-not-is_live c = search connect_stale
 
-pub returns-then-name-eq0 : goal.returns-then-name-eq0
-returns-then-name-eq0 c = search connect_unnamed
+pub returns-then-is_empty : goal.returns-then-is_empty
+returns-then-is_empty c = search (connect_unnamed, eqb-true _ 0 (sym c.if-is_empty.ensures))
 
 pub returns-then-name-gt255 : goal.returns-then-name-gt255
-returns-then-name-gt255 c = search (connect_long, c.if-name-eq0.false)
+returns-then-name-gt255 c = search (connect_long, (eqb-false _ 0 (sym c.if-is_empty.ensures)))
 
-pub load-slot-requires : goal.load-slot-requires
-load-slot-requires c = search live-in
+pub load-requires : goal.load-requires
+load-requires c = search live-in
 
 pub reach-requires : goal.reach-requires
 reach-requires c =
@@ -26,9 +28,9 @@ reach-requires c =
     let ls = lists p.wakes.now p.releases.now in
     let v = c.is_live in
     let i = c.slot_of-i in
-    let w = c.load-slot in record {
+    let w = c.load in record {
       admitted = c.requires;
-      caller = connect_unbound p.n p.c s ls p.h.0 p.name.now (refused_with 0) v.result v.ensures (ap not c.if-not-is_live.false) i.result w.result i.ensures w.ensures c.if-name-eq0.false
+      caller = connect_unbound p.n p.c s ls p.h.0 p.name.now (refused_with 0) v.result v.ensures (ap not c.if-not-is_live.false) i.result w.result i.ensures w.ensures (eqb-false _ 0 (sym c.if-is_empty.ensures))
           c.if-name-gt255.false c.in-Unbound.is;
     }
 
@@ -39,8 +41,8 @@ returns-in-Closed c =
     let ls = lists p.wakes.now p.releases.now in
     let v = c.is_live in
     let i = c.slot_of-i in
-    let w = c.load-slot in
-    connect_closed p.n p.c s ls p.h.0 p.name.now c.refused-in-Closed.result v.result v.ensures (ap not c.if-not-is_live.false) i.result w.result i.ensures w.ensures c.if-name-eq0.false
+    let w = c.load in
+    connect_closed p.n p.c s ls p.h.0 p.name.now _ v.result v.ensures (ap not c.if-not-is_live.false) i.result w.result i.ensures w.ensures (eqb-false _ 0 (sym c.if-is_empty.ensures))
     c.if-name-gt255.false c.in-Closed.is
 
 pub returns-in-Bound : goal.returns-in-Bound
@@ -50,9 +52,9 @@ returns-in-Bound c =
     let ls = lists p.wakes.now p.releases.now in
     let v = c.is_live in
     let i = c.slot_of-i in
-    let w = c.load-slot in
-    connect_bound p.n p.c s ls p.h.0 p.name.now c.refused-in-Bound.result v.result v.ensures (ap not c.if-not-is_live.false) i.result w.result i.ensures w.ensures c.if-name-eq0.false
-    c.if-name-gt255.false _ c.in-Bound.is c.refused-in-Bound.ensures
+    let w = c.load in
+    connect_bound p.n p.c s ls p.h.0 p.name.now _ v.result v.ensures (ap not c.if-not-is_live.false) i.result w.result i.ensures w.ensures (eqb-false _ 0 (sym c.if-is_empty.ensures))
+    c.if-name-gt255.false _ c.in-Bound.is refl
 
 pub returns-in-Listening : goal.returns-in-Listening
 returns-in-Listening c =
@@ -61,9 +63,9 @@ returns-in-Listening c =
     let ls = lists p.wakes.now p.releases.now in
     let v = c.is_live in
     let i = c.slot_of-i in
-    let w = c.load-slot in
-    connect_listening p.n p.c s ls p.h.0 p.name.now c.refused-in-Listening.result v.result v.ensures (ap not c.if-not-is_live.false) i.result w.result i.ensures w.ensures c.if-name-eq0.false
-    c.if-name-gt255.false _ c.in-Listening.is c.refused-in-Listening.ensures
+    let w = c.load in
+    connect_listening p.n p.c s ls p.h.0 p.name.now _ v.result v.ensures (ap not c.if-not-is_live.false) i.result w.result i.ensures w.ensures (eqb-false _ 0 (sym c.if-is_empty.ensures))
+    c.if-name-gt255.false _ c.in-Listening.is refl
 
 pub returns-in-Connected : goal.returns-in-Connected
 returns-in-Connected c =
@@ -72,6 +74,6 @@ returns-in-Connected c =
     let ls = lists p.wakes.now p.releases.now in
     let v = c.is_live in
     let i = c.slot_of-i in
-    let w = c.load-slot in
-    connect_connected p.n p.c s ls p.h.0 p.name.now c.refused-in-Connected.result v.result v.ensures (ap not c.if-not-is_live.false) i.result w.result i.ensures w.ensures c.if-name-eq0.false
-    c.if-name-gt255.false _ c.in-Connected.is c.refused-in-Connected.ensures
+    let w = c.load in
+    connect_connected p.n p.c s ls p.h.0 p.name.now _ v.result v.ensures (ap not c.if-not-is_live.false) i.result w.result i.ensures w.ensures (eqb-false _ 0 (sym c.if-is_empty.ensures))
+    c.if-name-gt255.false _ c.in-Connected.is refl

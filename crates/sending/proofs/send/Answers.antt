@@ -1,6 +1,8 @@
+use mathlib.Core.Path.{refl}
 use borrow.Author.Rules.{rules}
 use Rattle.sending.proofs.Sending.{peer_in, peer_still, push_fits, push_asked, sends_damaged, sends_refused, sends_pushed}
 use Rattle.promise.specs.Promise.{lists}
+use Rattle.promise.proofs.Answering.{passed_on}
 use Rattle.promise.proofs.Asked.{some_wake}
 use Rattle.sending.proofs.send.Goals as goal
 
@@ -17,7 +19,7 @@ returns-in_default c =
     let pre = c.requires in
     let j = c.slot_of-j in
     let s = c.load-slot in
-    sends_damaged pre.admitted a.p.0 pre.peer_open j.result j.ensures s.result s.ensures a.buf.now a.items.now (lists a.wakes.now a.releases.now) c.refused.result c.in_default.not-Connected c.refused.ensures
+    sends_damaged pre.admitted a.p.0 pre.peer_open j.result j.ensures s.result s.ensures a.buf.now a.items.now (lists a.wakes.now a.releases.now) _ c.in_default.not-Connected refl
 
 pub push_refusal-requires : goal.push_refusal-requires
 push_refusal-requires c =
@@ -36,7 +38,7 @@ push-pushed-requires c =
     let s = c.load-slot in
     let k = c.in-Connected.is in
     let v = c.push_refusal in
-    let m = push_asked pre.admitted a.p.0 pre.peer_open j.result j.ensures s.result s.ensures c.in-Connected.peer (search k) a.buf.now a.items.now v.result v.ensures (search c.in-Accepted.is) in
+    let m = push_asked pre.admitted a.p.0 pre.peer_open j.result j.ensures s.result s.ensures c.in-Connected.peer (search k) a.buf.now a.items.now v.result v.ensures c.in_ok-push_refusal.was in
     record { roomy = m.0; well = m.1.0; may_push = m.1.1 }
 
 pub store_inbox-requires : goal.store_inbox-requires
@@ -49,18 +51,18 @@ store_inbox-requires c =
 pub bounds-wakes-0 : goal.bounds-wakes-0
 bounds-wakes-0 c = some_wake c.requires.admitted
 
-pub returns-in-Refused : goal.returns-in-Refused
-returns-in-Refused c =
+pub returns-in_err-push_refusal : goal.returns-in_err-push_refusal
+returns-in_err-push_refusal c =
     let a = c.args in
     let pre = c.requires in
     let j = c.slot_of-j in
     let s = c.load-slot in
     let k = c.in-Connected.is in
     let v = c.push_refusal in
-    sends_refused pre.admitted a.p.0 pre.peer_open j.result j.ensures s.result s.ensures c.in-Connected.peer (search k) a.buf.now a.items.now v.result v.ensures (lists a.wakes.now a.releases.now) c.refused-in-Refused.result c.in-Refused.no (search c.in-Refused.is) c.refused-in-Refused.ensures
+    sends_refused pre.admitted a.p.0 pre.peer_open j.result j.ensures s.result s.ensures c.in-Connected.peer (search k) a.buf.now a.items.now v.result v.ensures (lists a.wakes.now a.releases.now) _ _ c.in_err-push_refusal.was (passed_on _ _ c.from_residual.ensures.1)
 
-pub returns-in-Accepted : goal.returns-in-Accepted
-returns-in-Accepted c =
+pub returns : goal.returns
+returns c =
     let a = c.args in
     let pre = c.requires in
     let j = c.slot_of-j in
@@ -68,4 +70,4 @@ returns-in-Accepted c =
     let k = c.in-Connected.is in
     let v = c.push_refusal in
     let q = c.push-pushed in
-    sends_pushed pre.admitted a.p.0 pre.peer_open j.result j.ensures s.result s.ensures c.in-Connected.peer (search k) a.buf.now a.items.now v.result v.ensures (search c.in-Accepted.is) (lists a.wakes.now a.releases.now) c.accepted.result q.result _ _ _ _ q.ensures (search rules) (search rules) (search rules) c.store_inbox.ensures c.accepted.ensures
+    sends_pushed pre.admitted a.p.0 pre.peer_open j.result j.ensures s.result s.ensures c.in-Connected.peer (search k) a.buf.now a.items.now v.result v.ensures c.in_ok-push_refusal.was (lists a.wakes.now a.releases.now) _ q.result _ _ _ _ q.ensures (search rules) (search rules) (search rules) c.store_inbox.ensures c.new.ensures

@@ -1,3 +1,4 @@
+use mathlib.Core.Path.{refl}
 use Rattle.promise.proofs.Asked.{live-in}
 use Rattle.sending.proofs.Sending.{sendmsg_stale, sendmsg_apart, sendmsg_shut, sendmsg_gone, send_asked, sendmsg_sends}
 use Rattle.promise.specs.Promise.{lists}
@@ -10,7 +11,7 @@ returns-then-not-is_live c =
     let a = c.args in
     let pre = c.requires in
     let f = c.is_live in
-    sendmsg_stale pre a.h.0 f.result f.ensures a.buf.now a.items.now (lists a.wakes.now a.releases.now) c.refused.result (ap not c.if-not-is_live.true) c.refused.ensures
+    sendmsg_stale pre a.h.0 f.result f.ensures a.buf.now a.items.now (lists a.wakes.now a.releases.now) _ (ap not c.if-not-is_live.true) refl
 
 pub load-slot-requires : goal.load-slot-requires
 load-slot-requires c =
@@ -27,7 +28,7 @@ returns-in_default c =
     let f = c.is_live in
     let i = c.slot_of in
     let s = c.load-slot in
-    sendmsg_apart pre a.h.0 f.result f.ensures a.buf.now a.items.now (ap not c.if-not-is_live.false) i.result i.ensures s.result s.ensures (lists a.wakes.now a.releases.now) c.refused-in_default.result c.in_default.not-Connected c.refused-in_default.ensures
+    sendmsg_apart pre a.h.0 f.result f.ensures a.buf.now a.items.now (ap not c.if-not-is_live.false) i.result i.ensures s.result s.ensures (lists a.wakes.now a.releases.now) _ c.in_default.not-Connected refl
 
 pub returns-then-connection : goal.returns-then-connection
 returns-then-connection c =
@@ -37,7 +38,7 @@ returns-then-connection c =
     let i = c.slot_of in
     let s = c.load-slot in
     let k = c.in-Connected.is in
-    sendmsg_shut pre a.h.0 f.result f.ensures a.buf.now a.items.now (ap not c.if-not-is_live.false) i.result i.ensures s.result s.ensures c.in-Connected.connection (search k) (lists a.wakes.now a.releases.now) c.refused-then-connection.result c.if-connection.true c.refused-then-connection.ensures
+    sendmsg_shut pre a.h.0 f.result f.ensures a.buf.now a.items.now (ap not c.if-not-is_live.false) i.result i.ensures s.result s.ensures c.in-Connected.connection (search k) (lists a.wakes.now a.releases.now) _ c.if-connection.true refl
 
 pub returns-then-not-is_open : goal.returns-then-not-is_open
 returns-then-not-is_open c =
@@ -48,7 +49,7 @@ returns-then-not-is_open c =
     let s = c.load-slot in
     let k = c.in-Connected.is in
     let g = c.is_open in
-    sendmsg_gone pre a.h.0 f.result f.ensures a.buf.now a.items.now (ap not c.if-not-is_live.false) i.result i.ensures s.result s.ensures c.in-Connected.connection (search k) c.if-connection.false g.result g.ensures (lists a.wakes.now a.releases.now) c.refused-then-not-is_open.result (ap not c.if-not-is_open.true) c.refused-then-not-is_open.ensures
+    sendmsg_gone pre a.h.0 f.result f.ensures a.buf.now a.items.now (ap not c.if-not-is_live.false) i.result i.ensures s.result s.ensures c.in-Connected.connection (search k) c.if-connection.false g.result g.ensures (lists a.wakes.now a.releases.now) _ (ap not c.if-not-is_open.true) refl
 
 pub send-requires : goal.send-requires
 send-requires c =

@@ -1,3 +1,4 @@
+use mathlib.Core.Path.{refl}
 use borrow.Author.Rules.{rules}
 use Rattle.promise.specs.Promise.{lists}
 use Rattle.promise.proofs.Asked.{some_wake, own_in}
@@ -19,7 +20,7 @@ returns-in_default c =
     let pre = c.requires in
     let i = c.slot_of-i in
     let s = c.load-slot in
-    shuts_apart pre.admitted a.h.0 pre.live i.result i.ensures s.result s.ensures a.read a.write (lists a.wakes.now a.releases.now) c.refused.result c.in_default.not-Connected c.refused.ensures
+    shuts_apart pre.admitted a.h.0 pre.live i.result i.ensures s.result s.ensures a.read a.write (lists a.wakes.now a.releases.now) _ c.in_default.not-Connected refl
 
 pub end_own-released-requires : goal.end_own-released-requires
 end_own-released-requires c =
@@ -43,7 +44,7 @@ returns-then-not-peer_open c =
     let k = c.in-Connected.is in
     let f = c.is_open-peer_open in
     let e = c.end_own-released in
-    shuts_alone pre.admitted a.h.0 pre.live i.result i.ensures s.result s.ensures c.in-Connected.connection (search k) f.result f.ensures a.read a.write _ _ _ e.result e.ensures a.wakes.now c.shut_down.result (ap not c.if-not-peer_open.true) c.shut_down.ensures
+    shuts_alone pre.admitted a.h.0 pre.live i.result i.ensures s.result s.ensures c.in-Connected.connection (search k) f.result f.ensures a.read a.write _ _ _ e.result e.ensures a.wakes.now _ (ap not c.if-not-peer_open.true) c.releasing.ensures
 
 pub end_peer-requires : goal.end_peer-requires
 end_peer-requires c =
@@ -69,4 +70,4 @@ returns c =
     let f = c.is_open-peer_open in
     let e = c.end_own-released in
     let p = c.end_peer in
-    shuts_both pre.admitted a.h.0 pre.live i.result i.ensures s.result s.ensures c.in-Connected.connection (search k) f.result f.ensures a.read a.write _ _ _ e.result e.ensures (ap not c.if-not-peer_open.false) _ a.wakes.now c.shut_down-2.result p.ensures c.shut_down-2.ensures
+    shuts_both pre.admitted a.h.0 pre.live i.result i.ensures s.result s.ensures c.in-Connected.connection (search k) f.result f.ensures a.read a.write _ _ _ e.result e.ensures (ap not c.if-not-peer_open.false) _ a.wakes.now _ p.ensures c.releasing-2.ensures

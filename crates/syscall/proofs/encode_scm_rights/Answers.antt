@@ -1,5 +1,5 @@
 use native.Mathlib.Omega.{arith}
-use Rattle.syscall.proofs.Encoding.{none, too_many, enough, header_held, space_held, to_the_end, padded}
+use Rattle.syscall.proofs.Encoding.{none, too_many, enough, header_held, space_held, lesser}
 use borrow.Author.Rules.{rules}
 use Rattle.syscall.proofs.encode_scm_rights.Goals as goal
 
@@ -9,11 +9,11 @@ returns-then-n-scm_rights_capacity c = search too_many
 pub returns-then-n-eq0 : goal.returns-then-n-eq0
 returns-then-n-eq0 c = search none
 
-pub returns-in_default : goal.returns-in_default
-returns-in_default c = header_held _ _ _ c.scm_rights_capacity.ensures (search rules) c.if-n-eq0.false (omega arith) _ _ _ _ c.scm_rights.ensures c.in_default.is
+pub returns-in_err-hdr : goal.returns-in_err-hdr
+returns-in_err-hdr c = header_held _ _ _ c.scm_rights_capacity.ensures (search rules) c.if-n-eq0.false (omega arith) _ _ _ _ c.scm_rights.ensures c.in_err-hdr.was
 
-pub returns-in_default-scm_rights_space : goal.returns-in_default-scm_rights_space
-returns-in_default-scm_rights_space c = space_held _ _ _ c.scm_rights_capacity.ensures (search rules) c.if-n-eq0.false (omega arith) _ _ _ _ c.scm_rights_space.ensures c.in_default-scm_rights_space.is
+pub returns-in_err-space : goal.returns-in_err-space
+returns-in_err-space c = space_held _ _ _ c.scm_rights_capacity.ensures (search rules) c.if-n-eq0.false (omega arith) _ _ _ _ c.scm_rights_space.ensures c.in_err-space.was
 
 pub write_header-requires : goal.write_header-requires
 write_header-requires c = let a = c.args in omega (arith, enough a.fds.now a.control.now _ c.scm_rights_capacity.ensures (search rules) c.if-n-eq0.false)
@@ -21,8 +21,5 @@ write_header-requires c = let a = c.args in omega (arith, enough a.fds.now a.con
 pub write_descriptors-requires : goal.write_descriptors-requires
 write_descriptors-requires c = let a = c.args in omega (arith, enough a.fds.now a.control.now _ c.scm_rights_capacity.ensures (search rules) c.if-n-eq0.false)
 
-pub returns-then-room-space : goal.returns-then-room-space
-returns-then-room-space c = to_the_end _ _ _ c.scm_rights_capacity.ensures (search rules) c.if-n-eq0.false _ _ c.scm_rights.ensures c.in-Is.is (omega arith) _ _ c.write_header.ensures c.write_descriptors.ensures _ _ c.scm_rights_space.ensures c.in-Is-scm_rights_space.is (search rules)
-
 pub returns : goal.returns
-returns c = padded _ _ _ c.scm_rights_capacity.ensures (search rules) c.if-n-eq0.false _ _ c.scm_rights.ensures c.in-Is.is (omega arith) _ _ c.write_header.ensures c.write_descriptors.ensures _ _ c.scm_rights_space.ensures c.in-Is-scm_rights_space.is (search rules)
+returns c = lesser _ _ _ c.scm_rights_capacity.ensures (search rules) c.if-n-eq0.false _ _ c.scm_rights.ensures c.in_ok-hdr.was (omega arith) _ _ c.write_header.ensures c.write_descriptors.ensures _ _ c.scm_rights_space.ensures c.in_ok-space.was _ (search rules)

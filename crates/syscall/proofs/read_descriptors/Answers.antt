@@ -11,10 +11,10 @@ use Rattle.syscall.proofs.read_descriptors.Goals as goal
 
 pub loop-i-init : goal.loop-i-init
 unfolding descriptors_at
-loop-i-init c = (search rules, refl, refl)
+loop-i-init c = (refl, refl)
 
 pub loop-i-preserved : goal.loop-i-preserved
-loop-i-preserved c = (omega arith, simp length-set (omega arith), read_next _ _ _ c.loop-i.i _ (sfits_of c.number.type_inv) (omega arith) c.loop-i.invariant.2 (c.number.ensures ∙ c.read_descriptor.ensures))
+loop-i-preserved c = (simp length-set (omega arith), read_next _ _ _ c.loop-i.i _ (sfits_of c.number.type_inv) (omega arith) c.loop-i.invariant.1 (c.number.ensures ∙ c.read_descriptor.ensures))
 
 pub returns : goal.returns
-returns c = read_all _ _ _ _ _ (search rules) (search rules) c.loop-i.invariant.2
+returns c = read_all _ _ _ _ _ (search rules) (search rules) c.loop-i.invariant.1

@@ -1,12 +1,8 @@
 use mathlib.Core.Path.{◌≡◌}
 use mathlib.Core.List.{◌++◌}
-use Prim.Native.Nat.{◌-◌, ◌≤◌}
 use lib.ListN.{length, drop}
 use Rattle.syscall.specs.Control.{descriptors_at}
 use Rattle.syscall.proofs.read_descriptors.Given as goal
 
 abbrev pub invariant-loop-i : goal.invariant-loop-i
-invariant-loop-i l = (l.i ≤ l.n) × (length l.fds ≡ length l.initial.fds) × (l.fds ≡ descriptors_at l.i l.part 0 ++ drop l.i l.initial.fds)
-
-abbrev pub decreases-loop-i : goal.decreases-loop-i
-decreases-loop-i l = l.n - l.i
+invariant-loop-i l = (length l.fds ≡ length l.initial.fds) × (l.fds ≡ descriptors_at l.i l.part 0 ++ drop l.i l.initial.fds)

@@ -2,8 +2,8 @@ use Rattle.syscall.proofs.Checks.{other_domain, other_type, other_protocol, stre
 use borrow.Author.Rules.{rules}
 use Rattle.syscall.proofs.socket_refusal.Goals as goal
 
-pub returns-then-domain-ne1 : goal.returns-then-domain-ne1
-returns-then-domain-ne1 c = other_domain _ _ _ c.if-domain-ne1.true
+pub returns-then-domain : goal.returns-then-domain
+returns-then-domain c = other_domain _ _ _ c.if-domain.true
 
 pub returns-then-ty-ne-SOCK_STREAM : goal.returns-then-ty-ne-SOCK_STREAM
 returns-then-ty-ne-SOCK_STREAM c = other_type _ _ _ (search rules) (search rules) c.if-ty-ne-SOCK_STREAM.true

@@ -1,3 +1,4 @@
+use Rattle.promise.proofs.Answering.{passed_on}
 use Rattle.unix_socket.proofs.Entered.{enters, refused_first, then_socket}
 use mir.Facts.{to_z-of_z}
 use Rattle.storage.specs.Rows.{lent}
@@ -7,16 +8,17 @@ use Rattle.unix_socket.proofs.socket.Goals as goal
 pub socket_admitted-requires : goal.socket_admitted-requires
 socket_admitted-requires c =
     let v = c.admission in
-    enters v.result v.ensures (search c.in-Accepted.is)
+    enters v.result v.ensures c.in_ok-admission.was
 
-pub returns-in-Refused : goal.returns-in-Refused
-returns-in-Refused c = search refused_first
+pub returns-in_err-admission : goal.returns-in_err-admission
+returns-in_err-admission c =
+    refused_first _ _ _ _ _ c.admission.ensures _ c.in_err-admission.was _ _ (passed_on _ _ c.from_residual.ensures.1)
 
-pub returns-in-Accepted : goal.returns-in-Accepted
-returns-in-Accepted c =
+pub returns : goal.returns
+returns c =
     let a = c.args in
     let f = c.ranges in
     let v = c.admission in
     let d = c.socket_admitted in
-    then_socket a.n a.c (lent a.words.now a.bytes.now a.tokens.now) (lists a.wakes.now a.releases.now) v.result v.ensures (search c.in-Accepted.is) a.domain a.ty a.protocol _ _ _ _ _ d.result
+    then_socket a.n a.c (lent a.words.now a.bytes.now a.tokens.now) (lists a.wakes.now a.releases.now) v.result v.ensures c.in_ok-admission.was a.domain a.ty a.protocol _ _ _ _ _ _
     (to_z-of_z f.domain) (to_z-of_z f.ty) (to_z-of_z f.protocol) d.ensures

@@ -1,15 +1,8 @@
-use borrow.Author.Rules.{rules}
-use Rattle.utf8.proofs.Rows.{whole, no, on, end}
+use Rattle.utf8.proofs.Rows.{whole, end}
 use Rattle.utf8.proofs.is_utf8.Goals as goal
 
-pub loop-i-init : goal.loop-i-init
-loop-i-init c = (search rules, whole _)
-
-pub returns-then-n-eq0 : goal.returns-then-n-eq0
-returns-then-n-eq0 c = search no
-
-pub loop-i-preserved : goal.loop-i-preserved
-loop-i-preserved c = (search rules, on _ _ _ c.loop-i.invariant.1 c.char_len-n.ensures c.if-n-eq0.false)
+pub loop-left-init : goal.loop-left-init
+loop-left-init c = whole _
 
 pub returns : goal.returns
-returns c = search end
+returns c = end _ _ c.in_default.len_below c.loop-left.invariant

@@ -1,20 +1,11 @@
-use Rattle.address.proofs.Addresses.{under_two, other_family, no_path, bad, fine}
-use borrow.Author.Rules.{rules}
-use mathlib.Core.Path.{ap}
-use mathlib.Core.Bool.{not}
+use Rattle.std.proofs.lemmas.Result.{err_from_is_err_and}
+use Rattle.address.proofs.Addresses.{refused_is, path_has_none}
 use Rattle.address.proofs.SockAddrUn.path_refusal.Goals as goal
 
-pub returns-then-addr-lt2 : goal.returns-then-addr-lt2
-returns-then-addr-lt2 c = search under_two
-
-pub returns-then-get_u16-ne-AF_UNIX : goal.returns-then-get_u16-ne-AF_UNIX
-returns-then-get_u16-ne-AF_UNIX c = other_family _ (search rules) _ c.get_u16.ensures c.if-get_u16-ne-AF_UNIX.true
-
-pub returns-then-end-eq2 : goal.returns-then-end-eq2
-returns-then-end-eq2 c = search no_path
-
-pub returns-then-not-is_utf8 : goal.returns-then-not-is_utf8
-returns-then-not-is_utf8 c = search bad
+pub returns-in_err-path : goal.returns-in_err-path
+returns-in_err-path c =
+    let p = err_from_is_err_and c.from_residual.result c.from_residual.ensures.1 in
+    rw (p.1, p.2) (refused_is _ _ c.in_err-path.ensures)
 
 pub returns : goal.returns
-returns c = fine _ (search rules) _ c.get_u16.ensures (search rules) _ c.zero_from-end.ensures _ c.is_utf8.ensures c.if-end-eq2.false (ap not c.if-not-is_utf8.false)
+returns c = path_has_none _ _ c.in_ok-path.ensures

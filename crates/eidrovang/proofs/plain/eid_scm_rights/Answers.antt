@@ -2,8 +2,8 @@ use Rattle.eidrovang.proofs.Passing.{made, not_made}
 use borrow.Author.Rules.{rules}
 use Rattle.eidrovang.proofs.plain.eid_scm_rights.Goals as goal
 
-pub returns-in-Is : goal.returns-in-Is
-returns-in-Is c = search (made, rules)
+pub returns-in-Ok : goal.returns-in-Ok
+returns-in-Ok c = search (made, rules)
 
-pub returns-in-Refused : goal.returns-in-Refused
-returns-in-Refused c = search (not_made, rules)
+pub returns-in-Err : goal.returns-in-Err
+returns-in-Err c = search (not_made, rules)

@@ -1,11 +1,15 @@
-use Rattle.inbox.proofs.Parts.{flags_more, flags_all, flags-drop}
+use Rattle.std.proofs.Common.{rules, tests}
+use Rattle.inbox.specs.Promise.{flags_for}
 use Rattle.inbox.proofs.AttachedItems.flags.Goals as goal
 
-pub returns-then-m-g : goal.returns-then-m-g
-returns-then-m-g c = search flags_more
+pub returns-in-Take : goal.returns-in-Take
+unfolding flags_for
+returns-in-Take c = search (rules, tests)
 
-pub returns-else-m-g : goal.returns-else-m-g
-returns-else-m-g c = search flags_all
+pub returns-in_default : goal.returns-in_default
+unfolding flags_for
+returns-in_default c = search (rules, tests)
 
-pub returns-in-Drop : goal.returns-in-Drop
-returns-in-Drop c = search flags-drop
+pub returns-in_default-2 : goal.returns-in_default-2
+unfolding flags_for
+returns-in_default-2 c = search (rules, tests)

@@ -1,8 +1,11 @@
-use Rattle.inbox.proofs.Parts.{handed-take, handed-drop}
+use Rattle.std.proofs.Common.{rules}
+use Rattle.inbox.specs.Promise.{handed_of}
 use Rattle.inbox.proofs.AttachedItems.handed.Goals as goal
 
 pub returns-in-Take : goal.returns-in-Take
-returns-in-Take c = search handed-take
+unfolding handed_of
+returns-in-Take c = search rules
 
 pub returns-in-Drop : goal.returns-in-Drop
-returns-in-Drop c = search handed-drop
+unfolding handed_of
+returns-in-Drop c = search rules

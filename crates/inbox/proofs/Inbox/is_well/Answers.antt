@@ -1,17 +1,12 @@
-use Rattle.inbox.proofs.Parts.{head_out, too_full, first_out, items_out, as_rising}
+use Rattle.std.proofs.Common.{arith}
+use Rattle.std.proofs.lemmas.Bool.Decides.{nat_tests}
+use Rattle.inbox.specs.Well.{is_well}
 use Rattle.inbox.proofs.Inbox.is_well.Goals as goal
 
-pub returns-then-c-self : goal.returns-then-c-self
-returns-then-c-self c = search head_out
+pub returns-then-self-le-MAX_PENDING_ATTACHED : goal.returns-then-self-le-MAX_PENDING_ATTACHED
+unfolding is_well
+returns-then-self-le-MAX_PENDING_ATTACHED c = grind (arith, nat_tests)
 
-pub returns-then-c-queued : goal.returns-then-c-queued
-returns-then-c-queued c = search too_full
-
-pub returns-then-self-ge256 : goal.returns-then-self-ge256
-returns-then-self-ge256 c = search first_out
-
-pub returns-then-self-gt256 : goal.returns-then-self-gt256
-returns-then-self-gt256 c = search items_out
-
-pub returns : goal.returns
-returns c = search as_rising
+pub returns-else-self-le-MAX_PENDING_ATTACHED : goal.returns-else-self-le-MAX_PENDING_ATTACHED
+unfolding is_well
+returns-else-self-le-MAX_PENDING_ATTACHED c = grind (arith, nat_tests)

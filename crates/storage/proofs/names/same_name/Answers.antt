@@ -1,17 +1,11 @@
-use Rattle.storage.proofs.Finds.{same_is, other_length, other_bytes}
+use mathlib.Core.Path.{◌∙◌}
+use Rattle.storage.proofs.Finds.{other_first, other_last}
 use Rattle.storage.proofs.names.same_name.Goals as goal
+use Rattle.storage.proofs.names.same_name.Goals.{then-eq, else-eq}
 
-pub returns-then-a-b : goal.returns-then-a-b
-returns-then-a-b c = other_length _ _ c.if-a-b.true
-
-pub returns-then-a-lt8 : goal.returns-then-a-lt8
-returns-then-a-lt8 c = same_is _ _ _ c.same.ensures
-
-pub returns-then-get_u64 : goal.returns-then-get_u64
-returns-then-get_u64 c = other_bytes _ _ 0 _ _ c.get_u64.ensures c.get_u64-2.ensures c.if-get_u64.true
-
-pub returns-then-get_u64-2 : goal.returns-then-get_u64-2
-returns-then-get_u64-2 c = other_bytes _ _ _ _ _ c.get_u64-3.ensures c.get_u64-4.ensures c.if-get_u64-2.true
-
-pub returns : goal.returns
-returns c = same_is _ _ _ c.same-2.ensures
+pub returns-else-eq-2 : goal.returns-else-eq-2
+returns-else-eq-2 c =
+    elim c.if-eq.branch [
+      | then-eq w ↦ other_last _ _ _ _ _ w.last_chunk.ensures.cases w.last_chunk-then-eq.ensures.cases (w.value-is ∙ w.eq-then-eq.ensures) c.if-eq-2.false
+      | else-eq w ↦ other_first _ _ _ _ _ c.first_chunk.ensures.cases c.first_chunk-2.ensures.cases (w.value-is ∙ c.eq.ensures) c.if-eq-2.false
+    ]

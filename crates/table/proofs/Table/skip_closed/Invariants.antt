@@ -1,0 +1,6 @@
+use Rattle.table.specs.OnePass.{ClosedRun}
+use Rattle.table.proofs.Table.skip_closed.Given as goal
+
+-- The slots from the first on up to i are closed.
+abbrev pub invariant-loop-i : goal.invariant-loop-i
+invariant-loop-i l = ClosedRun l.self.words.now l.self.n l.from l.i
