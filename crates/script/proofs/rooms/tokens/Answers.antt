@@ -1,6 +1,0 @@
-use Rattle.std.proofs.Common.{ℕ, sym}
-use Rattle.std.proofs.lemmas.List.{length-replicate}
-use Rattle.script.proofs.rooms.tokens.Goals as goal
-
-pub returns : goal.returns
-returns c = sym (length-replicate {A = ℕ} 10240 0)
