@@ -1,4 +1,5 @@
 // listen and accept, on a table that has been admitted.
+// Stays: the lent lists are parameters of their own, since each call writes some and only reads others, as C's pointers say: a struct of all would ask to write every one.
 #![tactic(auto)]
 
 ghost use Rattle.std.specs.Prelude.{length};
@@ -31,6 +32,7 @@ pub fn listen_admitted(
     }
     let i = handles::slot_of(h);
     let slot = storage::load(words, i);
+    let backlog = u64::from(backlog);
     match slot.state {
         // no live socket is closed
         State::Closed => Err(Errno::DAMAGED),
@@ -38,7 +40,7 @@ pub fn listen_admitted(
         State::Bound(name) => {
             let state = State::Listening(Listener {
                 name,
-                backlog: backlog as u64,
+                backlog,
                 head: 0,
                 pending: 0,
             });
@@ -47,15 +49,16 @@ pub fn listen_admitted(
         }
         State::Listening(listener) => {
             let state = State::Listening(Listener {
-                backlog: backlog as u64,
+                backlog,
                 ..listener
             });
             storage::store(words, i, Slot { state, ..slot });
-            if listener.backlog < backlog as u64 {
+            if listener.backlog < backlog {
                 wakes[0] = 0;
-                return Ok(Accepted::new(0, 1));
+                Ok(Accepted::new(0, 1))
+            } else {
+                Ok(Accepted::new(0, 0))
             }
-            Ok(Accepted::new(0, 0))
         }
         State::Connected(_) => Err(Errno::EINVAL),
     }

@@ -4,18 +4,19 @@ use mathlib.Core.Logic.{◌≢◌}
 use mathlib.Core.Bool.{true≢false}
 use mathlib.Core.Bool.{Bool, true, false, cond, not}
 use mathlib.Core.List.{List, [], ◌∷◌, ◌++◌}
-use Prim.Native.Nat.{ℕ, zero, suc, ◌+◌, ◌*◌, ◌≤◌, ◌<◌}
+use Prim.Native.Nat.{ℕ, zero, suc, ◌+◌, ◌≤◌, ◌<◌}
 use native.Mathlib.Omega.{arith}
+use lib.Dec.{eqb}
 use lib.ListN.{length, take, drop, set}
 use lib.Seq.{sets, sets-eq, paste, take-paste, take_all, set-set}
-use borrow.Author.Tests.{le-leb}
+use borrow.Author.Tests.{le-leb, eqb-true, eqb-false}
 use Rattle.rules.specs.Table as model
 use Rattle.rules.specs.Table.{Table, at, put, slot_of, become, first, holds, holder}
 use Rattle.rules.specs.Outcome.{Call, Outcome, refuse, refuse_if, answer}
 use Rattle.rules.specs.Connecting.{do_bind}
 use Rattle.rules.specs.Run.{run}
 use Rattle.rules.proofs.Frame.{first_passes}
-use Rattle.storage.specs.Layout.{part, name_base}
+use Rattle.storage.specs.Layout.{part, name_base, HasNames}
 use Rattle.storage.specs.Cells.{cell_at, state_of, store_at, cell_of}
 use Rattle.storage.specs.Rows.{Store, Row, Around, lent, row_at, rows, with_cell, with_room, Roomy}
 use Rattle.storage.specs.View.{view, show, show_in}
@@ -73,7 +74,7 @@ module _ (n c : ℕ) (s : Store) (m : List ℕ) (f : ℕ) (ef : f ≡ least n (�
 
 -- there is room for it
 pub name_in : {n c : ℕ} {w b t : List ℕ} {x y : ℕ} → Admitted n c (lent w b t) x y → (h : ℕ) (v : Bool) (i : ℕ) → v ≡ live_in n w h → not v ≡ false → i ≡ slot_of h → (m : List ℕ) → length m ≤ 255
-    → (i < n) × (c * n + 255 * n ≤ length b) × (length m ≤ 255)
+    → (i < n) × HasNames n c b × (length m ≤ 255)
 name_in {n} {c} {w} {b} {t} a h v i ev lv ei m low = let z = (live n c (lent w b t) h v ev lv).within in (omega arith, a.bytes, low)
 
 paste-sets : (l m : List ℕ) → length m ≤ length l → sets l 0 m ≡ paste l 0 m (length m)
@@ -117,11 +118,11 @@ bind_other t h m r g (Connected k) a b = refl
 
 -- ── What a search for the name found ──
 
-pub found_one : (n : ℕ) (p : ℕ → Bool) (r : Option ℕ) → r ≡ lowest n p → is_some r ≡ true → least n p ≢ n
+found_one : (n : ℕ) (p : ℕ → Bool) (r : Option ℕ) → r ≡ lowest n p → is_some r ≡ true → least n p ≢ n
 found_one n p (Some i) e h = let z = lowest-some n p (Some i) i e refl in let b = z.1 in λ y. omega (arith, z.0)
 found_one n p None e h = absurd (true≢false (sym h))
 
-pub found_nothing : (n : ℕ) (p : ℕ → Bool) (r : Option ℕ) → r ≡ lowest n p → is_some r ≡ false → least n p ≡ n
+found_nothing : (n : ℕ) (p : ℕ → Bool) (r : Option ℕ) → r ≡ lowest n p → is_some r ≡ false → least n p ≡ n
 found_nothing n p (Some i) e h = absurd (true≢false h)
 found_nothing n p None e h = lowest-none n p None e refl
 
@@ -136,11 +137,14 @@ module _ (n c : ℕ) (s : Store) (l : Lists) (h : ℕ) (m : List ℕ) (r : Answe
     mine : Live n c s h
     mine = live n c s h b eb lv
 
-    pub bind_nothing : length m ≡ 0 → r ≡ refused_with 2 → Done (run (view n c s) (Call.Bind h m)) n c s s l l r
+    pub bind_nothing : true ≡ eqb (length m) 0 → r ≡ refused_with 2 → Done (run (view n c s) (Call.Bind h m)) n c s s l l r
     unfolding run
-    bind_nothing e er = refused_done _ 2 n c s l r (no_name n c s h mine _ m e) (λ z. omega arith) er
+    bind_nothing e er = refused_done _ 2 n c s l r (no_name n c s h mine _ m (eqb-true _ 0 (sym e))) (λ z. omega arith) er
 
-    module _ (some : length m ≢ 0) where
+    module _ (named : false ≡ eqb (length m) 0) where
+      some : length m ≢ 0
+      some = eqb-false _ 0 (sym named)
+
       pub bind_long : 255 < length m → r ≡ refused_with 17 → Done (run (view n c s) (Call.Bind h m)) n c s s l l r
       unfolding run
       bind_long e er = refused_done _ 17 n c s l r (long_name n c s h mine _ m some e) (λ z. omega arith) er
@@ -160,19 +164,19 @@ module _ (n c : ℕ) (s : Store) (l : Lists) (h : ℕ) (m : List ℕ) (r : Answe
             (λ z. let d = at_state Closed z in not_closed n c s h d.lives (ap (λ (j : ℕ). state_of (cell_at s.words j)) (sym ei) ∙ d.state)))
             (λ z. omega arith) er
 
-        module _ (es : x.state ≡ Unbound) (f : ℕ) (ef : f ≡ least n (λ j. holds_cell (cell_at s.words j) (part (name_base n c j) 255 s.bytes) m)) where
-          pub bind_taken : f ≢ n → r ≡ refused_with 3 → Done (run (view n c s) (Call.Bind h m)) n c s s l l r
+        module _ (es : x.state ≡ Unbound) (o : Option ℕ) (eo : o ≡ lowest n (λ j. holds_cell (cell_at s.words j) (part (name_base n c j) 255 s.bytes) m)) (y : Bool) (ey : y ≡ is_some o) where
+          pub bind_taken : y ≡ true → r ≡ refused_with 3 → Done (run (view n c s) (Call.Bind h m)) n c s s l l r
           unfolding do_bind show_in refuse_if
-          bind_taken ne er = refused_done _ 3 n c s l r (asked Unbound es ∙ rw (held n c s m f ef ne)) (λ z. omega arith) er
+          bind_taken some er = refused_done _ 3 n c s l r (asked Unbound es ∙ rw (held n c s m _ refl (found_one n _ o eo (sym ey ∙ some)))) (λ z. omega arith) er
 
-          bind_next : f ≡ n → length m ≤ length (row_at n c s i).room → run (view n c s) (Call.Bind h m) ≡ answer (put (view n c s) i (show (bound_row x.generation m (row_at n c s i)))) 0 [] []
+          bind_next : y ≡ false → length m ≤ length (row_at n c s i).room → run (view n c s) (Call.Bind h m) ≡ answer (put (view n c s) i (show (bound_row x.generation m (row_at n c s i)))) 0 [] []
           unfolding do_bind show_in refuse_if
           bind_next e room =
               let d = at_state Unbound es in
-              asked Unbound es ∙ ap (λ (v : Bool). cond v (refuse (view n c s) 3) (answer (become (view n c s) h (model.State.Bound m)) 0 [] [])) (not_held n c s m f ef e)
+              asked Unbound es ∙ ap (λ (v : Bool). cond v (refuse (view n c s) 3) (answer (become (view n c s) h (model.State.Bound m)) 0 [] [])) (not_held n c s m _ refl (found_nothing n _ o eo (sym ey ∙ e)))
               ∙ ap (λ (t : Table). answer t 0 [] []) (become_is (view n c s) h i _ (model.State.Bound m) ei d.shown ∙ ap (put (view n c s) i) (sym (shown_bound x.generation m (row_at n c s i) room)))
 
-          pub bind_made : Known n c s → (b' w' : List ℕ) → f ≡ n → b' ≡ paste s.bytes (name_base n c i) (drop 0 m) (length m)
+          pub bind_made : Known n c s → (b' w' : List ℕ) → y ≡ false → b' ≡ paste s.bytes (name_base n c i) (drop 0 m) (length m)
               → w' ≡ store_at s.words i (cell_of x.generation (Bound (length m))) → r ≡ accepted_with 0 0
               → Done (run (view n c s) (Call.Bind h m)) n c s (lent w' b' s.tokens) l l r
           unfolding row_at
