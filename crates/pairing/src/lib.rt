@@ -82,7 +82,7 @@ fn reach(
     let Some(j) = handles::lowest_free(words, n) else {
         return Err(Errno::ENFILE);
     };
-    join(words, n, h, l, found.generation, listener, j);
+    join(words, n, h, l, found, listener, j);
     wake(wakes, handles::handle(found.generation, l), h);
     Ok(Accepted::new(0, 2))
 }
@@ -102,41 +102,40 @@ fn join(
     n: usize,
     h: Handle,
     l: usize,
-    generation: u64,
+    found: Slot,
     listener: Listener,
     j: usize,
 )
     requires slots_in { (slot_of h.0 < n) × (l < n) × (j < n) × (n ≤ 1024) × (8 + 272 * n + n * n ≤ length words.old) }
     requires numbers_fit { ((cell_at words.old j).generation < 4294967295) × (listener.head < n) × (listener.pending ≤ n) }
-    ensures { words.new ≡ joined n words.old h.0 l generation listener j }
+    ensures { words.new ≡ joined n words.old h.0 l found.generation listener j }
 {
-    let own = storage::load(words, handles::slot_of(h)).generation;
+    let own = storage::load(words, handles::slot_of(h));
     let new = storage::load(words, j).generation + 1;
     let at = ring::place(n, listener.head + listener.pending);
     let server = pair(words, h, own, j, new, l, at);
-    queue_up(words, n, l, generation, listener, at, server);
+    queue_up(words, n, l, found, listener, at, server);
 }
 
-// A server of this generation in slot `j`, and the caller, of its own generation: each is the
+// A server of this generation in slot `j`, and the caller, whose own slot this was: each is the
 // other's peer.
 fn pair(
     words: &mut [u64],
     h: Handle,
-    own: u64,
+    own: Slot,
     j: usize,
     generation: u64,
     l: usize,
     at: usize,
 ) -> Handle
     requires { (8 + 16 * j + 16 ≤ length words.old) × (8 + 16 * slot_of h.0 + 16 ≤ length words.old) × (generation ≤ 4294967295) × (j < 65536) × (l < 65536) }
-    ensures { (result.0 ≡ handle generation j) × (words.new ≡ pair_in words.old h.0 own j generation l at) }
+    ensures { (result.0 ≡ handle generation j) × (words.new ≡ pair_in words.old h.0 own.generation j generation l at) }
 {
     let server = handles::handle(generation, j);
     let state = State::Connected(new_end(h, l + 1, at));
     storage::store(words, j, Slot { generation, state });
     let state = State::Connected(new_end(server, 0, 0));
-    let generation = own;
-    storage::store(words, handles::slot_of(h), Slot { generation, state });
+    storage::store(words, handles::slot_of(h), Slot { state, ..own });
     server
 }
 
@@ -159,18 +158,18 @@ fn queue_up(
     words: &mut [u64],
     n: usize,
     l: usize,
-    generation: u64,
+    found: Slot,
     listener: Listener,
     at: usize,
     server: Handle,
 )
     requires { (l < n) × (at < n) × (n ≤ 1024) × (8 + 272 * n + n * n ≤ length words.old) × (listener.pending ≤ n) }
-    ensures { words.new ≡ queue_up n words.old l generation listener at server.0 }
+    ensures { words.new ≡ queue_up n words.old l found.generation listener at server.0 }
 {
     queues::put_entry(words, n, l, at, server);
     let state = State::Listening(Listener {
         pending: listener.pending + 1,
         ..listener
     });
-    storage::store(words, l, Slot { generation, state });
+    storage::store(words, l, Slot { state, ..found });
 }

@@ -5,10 +5,7 @@ pub overflow_add-new : goal.overflow_add-new
 overflow_add-new c = record { fits = search new_word }
 
 pub pair-server-requires : goal.pair-server-requires
-pair-server-requires c =
-    let p = c.args in
-    let b = c.load-new in
-    pair_asks p.words.now p.j b.result b.ensures c.requires.numbers_fit.0 p.n p.h.0 p.l c.requires.slots_in
+pair-server-requires c = pair_asks _ _ _ c.load-new.ensures c.requires.numbers_fit.0 _ _ _ c.requires.slots_in
 
 pub returns : goal.returns
 returns c = search all_joined
