@@ -13,6 +13,7 @@ use promise::Accepted;
 use storage::{Connection, Listener, Slot, State, handles, queues};
 use words::{Errno, Handle};
 
+#[tactic(auto, unfolding(storage::specs::Finding::live_in, storage::specs::Finding::open_in))]
 pub fn listen_admitted(
     words: &mut [u64],
     bytes: &[u8],
@@ -64,6 +65,7 @@ pub fn listen_admitted(
     }
 }
 
+#[tactic(auto, unfolding(storage::specs::Finding::live_in, storage::specs::Finding::open_in))]
 pub fn accept_admitted(
     words: &mut [u64],
     bytes: &[u8],

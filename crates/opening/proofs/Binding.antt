@@ -16,7 +16,7 @@ use Rattle.rules.specs.Outcome.{Call, Outcome, refuse, refuse_if, answer}
 use Rattle.rules.specs.Connecting.{do_bind}
 use Rattle.rules.specs.Run.{run}
 use Rattle.rules.proofs.Frame.{first_passes}
-use Rattle.storage.specs.Layout.{part, name_base, HasNames}
+use Rattle.storage.specs.Layout.{part, name_base}
 use Rattle.storage.specs.Cells.{cell_at, state_of, store_at, cell_of}
 use Rattle.storage.specs.Rows.{Store, Row, Around, lent, row_at, rows, with_cell, with_room, Roomy}
 use Rattle.storage.specs.View.{view, show, show_in}
@@ -32,7 +32,6 @@ use Rattle.storage.proofs.Framing.{store_rows, room_rows}
 use Rattle.storage.proofs.Around.{store_around, room_around, around_then, roomy_around}
 use Rattle.storage.proofs.Viewed.{size_view, at_none, holder_view}
 use Rattle.table.specs.Formed.{ranges_well}
-use Rattle.table.specs.Admission.{Admitted}
 use Rattle.promise.specs.Answers.{refused_with, accepted_with}
 use Rattle.promise.specs.Hidden.{hidden_in, hidden_after, room_after, name_written}
 use Rattle.promise.specs.Promise.{Lists, Stored, Done}
@@ -71,11 +70,6 @@ module _ (n c : ℕ) (s : Store) (m : List ℕ) (f : ℕ) (ef : f ≡ least n (�
   not_held e = let z = found in ap (holds m) (at_none n c s (holder (view n c s) m) (omega arith))
 
 -- ── A name that is written ──
-
--- there is room for it
-pub name_in : {n c : ℕ} {w b t : List ℕ} {x y : ℕ} → Admitted n c (lent w b t) x y → (h : ℕ) (v : Bool) (i : ℕ) → v ≡ live_in n w h → not v ≡ false → i ≡ slot_of h → (m : List ℕ) → length m ≤ 255
-    → (i < n) × HasNames n c b × (length m ≤ 255)
-name_in {n} {c} {w} {b} {t} a h v i ev lv ei m low = let z = (live n c (lent w b t) h v ev lv).within in (omega arith, a.bytes, low)
 
 paste-sets : (l m : List ℕ) → length m ≤ length l → sets l 0 m ≡ paste l 0 m (length m)
 paste-sets l m h = sets-eq m l 0 (omega arith) ∙ ap (λ (x : List ℕ). x ++ drop (0 + length m) l) (sym (take_all (length m) m (omega arith)))

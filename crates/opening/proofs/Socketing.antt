@@ -3,10 +3,9 @@ use mathlib.Core.Path.{◌≡◌, refl, sym, ap, ◌∙◌}
 use mathlib.Core.Logic.{◌≢◌}
 use mathlib.Core.Bool.{Bool, true, false, cond, not}
 use mathlib.Core.List.{List, []}
-use Prim.Native.Nat.{ℕ, suc, ◌+◌, ◌*◌, ◌^◌, ◌≤◌, ◌<◌}
+use Prim.Native.Nat.{ℕ, suc, ◌+◌, ◌^◌, ◌≤◌, ◌<◌}
 use native.Mathlib.Omega.{arith}
 use lib.IntN.{ℤ}
-use lib.ListN.{length}
 use Rattle.std.specs.Prelude.{Option, Some, None, Result, Ok, Err}
 use Rattle.storage.specs.Finding.{lowest}
 use Rattle.storage.proofs.Finds.{lowest-some, lowest-none}
@@ -34,7 +33,7 @@ use Rattle.promise.specs.Answers.{refused_with, accepted_with}
 use Rattle.promise.specs.Hidden.{hidden_in, hidden_after, room_after}
 use Rattle.promise.specs.Promise.{Lists, Done}
 use Rattle.promise.specs.declared.Answer.{Answer}
-use Rattle.promise.proofs.Asked.{free_in, next_fits, next_handle}
+use Rattle.promise.proofs.Asked.{next_fits, next_handle}
 use Rattle.promise.proofs.Known.{Known, refused_done}
 use Rattle.promise.proofs.Kept.{keeps_free, other_state}
 use Rattle.promise.proofs.Changed.{Fit, fields_unbound, accepted_done, cell_stored}
@@ -81,16 +80,12 @@ found_free : (n : ℕ) (p : ℕ → Bool) (r : Option ℕ) (i : ℕ) → r ≡ l
 found_free n p r i e h = let z = lowest-some n p r i e h in let b = z.1 in (z.0, λ y. omega arith)
 
 -- what the parts of the call ask of it
-module _ {n c : ℕ} {w b t : List ℕ} {x y : ℕ} (a : Admitted n c (lent w b t) x y) (o : Option ℕ) (i : ℕ) (eo : o ≡ lowest n (λ j. free_cell (cell_at w j))) (ei : o ≡ Some i) where
-  pub found_in : 8 + 16 * i + 16 ≤ length w
-  found_in = let z = found_free n _ o i eo ei in free_in a i z.0 z.1
+module _ {n c : ℕ} {w b t : List ℕ} {x y : ℕ} (a : Admitted n c (lent w b t) x y) (o : Option ℕ) (i : ℕ) (eo : o ≡ lowest n (λ j. free_cell (cell_at w j))) (ei : o ≡ Some i) (s : Slot) (es : s ≡ loaded_at w i) where
+  pub found_fits : s.generation + 1 < 2 ^ 64
+  found_fits = let z = found_free n _ o i eo ei in next_fits a i z.0 z.1 s es
 
-  module _ (s : Slot) (es : s ≡ loaded_at w i) where
-    pub found_fits : s.generation + 1 < 2 ^ 64
-    found_fits = let z = found_free n _ o i eo ei in next_fits a i z.0 z.1 s es
-
-    pub found_handle : (s.generation + 1 ≤ 4294967295) × (i < 65536)
-    found_handle = let z = found_free n _ o i eo ei in next_handle a i z.0 z.1 s es
+  pub found_handle : (s.generation + 1 ≤ 4294967295) × (i < 65536)
+  found_handle = let z = found_free n _ o i eo ei in next_handle a i z.0 z.1 s es
 
 -- the arguments as they are handed on
 module _ (n c : ℕ) (s : Store) (l : Lists) (d ty p d' ty' p' : ℤ) (v : Result Unit Errno) (ev' : v ≡ socket_of d' ty' p') (ed : d' ≡ d) (et : ty' ≡ ty) (ep : p' ≡ p) (r : Answer) where

@@ -13,6 +13,7 @@ use promise::Accepted;
 use storage::{Slot, State, handles, names};
 use words::{Errno, Handle};
 
+#[tactic(auto, unfolding(storage::specs::Finding::lowest))]
 pub fn socket_admitted(
     words: &mut [u64],
     bytes: &[u8],
@@ -38,6 +39,7 @@ pub fn socket_admitted(
     Ok(Accepted::new(handles::handle(generation, i).0, 0))
 }
 
+#[tactic(auto, unfolding(storage::specs::Finding::live_in, storage::specs::Finding::open_in))]
 pub fn bind_admitted(
     words: &mut [u64],
     bytes: &mut [u8],

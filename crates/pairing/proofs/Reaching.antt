@@ -30,12 +30,10 @@ use Rattle.storage.proofs.Coding.{loaded_state, loaded_at}
 use Rattle.storage.proofs.Finds.{lowest-some, lowest-none}
 use Rattle.storage.proofs.Viewed.{at_none, seen, gen_at, holder_view}
 use Rattle.table.proofs.Links.{queue_long}
-use Rattle.table.specs.Admission.{Admitted}
 use Rattle.promise.specs.Answers.{refused_with, accepted_with}
-use Rattle.promise.specs.Promise.{Lists, lists, Stored, Done}
+use Rattle.promise.specs.Promise.{Lists, Stored, Done}
 use Rattle.promise.specs.declared.Answer.{Answer}
 use Rattle.promise.proofs.Known.{Known, refused_done, listener_at}
-use Rattle.promise.proofs.Asked.{slot_in}
 use Rattle.promise.proofs.Changed.{accepted_done}
 use Rattle.promise.proofs.Free.{Free, none_free, free_found}
 use Rattle.promise.proofs.Live.{Live, live, not_closed, state_seen, stale_name, no_name, long_name, named_run}
@@ -92,10 +90,6 @@ may_reach n w h m b eb d i slot ei es e named short =
     record { lives = sym eb ∙ not-false b d; unbound = sym (loaded_state w ei es) ∙ e; some_name = eqb-false _ 0 (sym named); short_name = short }
 
 -- ── The socket of that name ──
-
--- a slot that was found is one of n
-pub found_in : {n c : ℕ} {w b t : List ℕ} {x y : ℕ} → Admitted n c (lent w b t) x y → (p : ℕ → Bool) (o : Option ℕ) (l : ℕ) → o ≡ lowest n p → o ≡ Some l → 8 + 16 * l + 16 ≤ length w
-found_in a p o l eo e = slot_in a l (lowest-some _ p o l eo e).1
 
 module _ (n c : ℕ) (s : Store) (h : ℕ) (m : List ℕ) (k : Known n c s) (a : Caller n s.words h m) (o : Option ℕ)
     (eo : o ≡ lowest n (λ i. holds_cell (cell_at s.words i) (part (name_base n c i) 255 s.bytes) m)) where

@@ -19,6 +19,7 @@ use promise::Accepted;
 use storage::{Connection, Listener, Slot, State, handles, names, queues};
 use words::{Errno, Handle};
 
+#[tactic(auto, unfolding(storage::specs::Finding::live_in, storage::specs::Finding::open_in))]
 pub fn connect_admitted(
     words: &mut [u64],
     bytes: &[u8],
@@ -54,6 +55,7 @@ pub fn connect_admitted(
 }
 
 // An unbound caller, from the name on.
+#[tactic(auto, unfolding(storage::specs::Finding::lowest))]
 fn reach(
     words: &mut [u64],
     bytes: &[u8],
@@ -97,6 +99,7 @@ fn wake(wakes: &mut [u64], first: Handle, then: Handle)
 }
 
 // The caller `h` and a new server in slot `j`; the server waits for the listener of slot `l`.
+#[tactic(auto, unfolding(crate::specs::Pairs::joined))]
 fn join(
     words: &mut [u64],
     n: usize,
@@ -119,6 +122,7 @@ fn join(
 
 // A server of this generation in slot `j`, and the caller, whose own slot this was: each is the
 // other's peer.
+#[tactic(auto, unfolding(crate::specs::Pairs::pair_in))]
 fn pair(
     words: &mut [u64],
     h: Handle,
@@ -154,6 +158,7 @@ fn new_end(peer: Handle, waits: usize, place: usize) -> Connection
 }
 
 // The server last in the queue of slot `l`.
+#[tactic(auto, unfolding(crate::specs::Pairs::queue_up))]
 fn queue_up(
     words: &mut [u64],
     n: usize,

@@ -3,10 +3,10 @@ use mathlib.Core.Path.{◌≡◌, refl, sym, ap, ap₂, ◌∙◌, subst}
 use mathlib.Core.Logic.{◌≢◌}
 use mathlib.Core.Bool.{Bool, true, false, cond, not, ◌&&◌, ◌||◌}
 use mathlib.Core.List.{List, [], ◌∷◌}
-use Prim.Native.Nat.{ℕ, ◌+◌, ◌-◌, ◌*◌, ◌≤◌, ◌<◌, ◌^◌, min}
+use Prim.Native.Nat.{ℕ, ◌+◌, ◌-◌, ◌≤◌, ◌<◌, ◌^◌, min}
 use native.Mathlib.Omega.{arith}
 use lib.Dec.{leb, ltb}
-use borrow.Author.Tests.{lt-leb, not-false}
+use borrow.Author.Tests.{lt-leb}
 use lib.ListN.{length, take, set}
 use lib.Seq.{set-set}
 use Rattle.std.specs.Prelude.{Result, Ok, Err}
@@ -50,7 +50,6 @@ use Rattle.promise.specs.Answers.{refused_with, accepted_with}
 use Rattle.promise.specs.Promise.{Lists, lists, Done}
 use Rattle.promise.specs.declared.Answer.{Answer}
 use Rattle.promise.proofs.Known.{Known, known, refused_done, stay}
-use Rattle.promise.proofs.Asked.{slot_in}
 use Rattle.promise.proofs.Live.{Opened, opened, Live, live, live_run, stale_run, state_seen}
 use Rattle.promise.proofs.Kept.{row_changed}
 use Rattle.promise.proofs.Changed.{row_stored, accepted_done}
@@ -272,9 +271,6 @@ module _ {n c : ℕ} {w b t : List ℕ} {u v : ℕ} (a : Admitted n c (lent w b 
   pub peer_less : j < n
   peer_less = let z = op.within in omega arith
 
-  pub peer_in : 8 + 16 * j + 16 ≤ length w
-  peer_in = slot_in a j peer_less
-
   module _ (slot : Slot) (es : slot ≡ loaded_at w j) where
     pub sends_damaged : (buf its : List ℕ) (l : Lists) (r : Answer) → Unconnected slot.state → r ≡ refused_with 19
         → Sends n c (lent w b t) (lent w b t) p buf its l l r
@@ -320,9 +316,6 @@ module _ {n c : ℕ} {w b t : List ℕ} {u v : ℕ} (a : Admitted n c (lent w b 
               pushed_at n c w b t l buf its (known a) p o con at_slot d ed r push_may q w₁ b₁ t₁
               (subst (λ (i : ℕ). PushesAt n c i (lent w b t) (lent w₁ b₁ t₁) buf its con.inbox q) ej x) lw lb lt w₂
               (ew ∙ ap₂ (λ (i : ℕ) (g : ℕ). store_at w₁ i (cell_of g (Connected (with_inbox con q.inbox)))) ej (loaded_generation w ej es)) er
-
-  pub peer_still : (w₁ : List ℕ) → length w₁ ≡ length w → 8 + 16 * j + 16 ≤ length w₁
-  peer_still w₁ e = let z = peer_in in omega arith
 
 -- ── sendmsg ──
 
@@ -378,9 +371,6 @@ module _ {n c : ℕ} {w b t : List ℕ} {u v : ℕ} (a : Admitted n c (lent w b 
           sendmsg_gone l r z er = refused_done _ 10 n c (lent w b t) l r (connected_is ∙ rw (open', gone, z) refl) (λ y. omega arith) er
 
           module _ (z : not g ≡ false) where
-            pub peer_opened : open_in n w con.peer.0 ≡ true
-            peer_opened = sym eg ∙ not-false g z
-
             pub sendmsg_sends : (l l' : Lists) (r : Answer) (s' : Store) → Sends n c (lent w b t) s' con.peer.0 buf its l l' r → Done sending n c (lent w b t) s' l l' r
             unfolding refuse_if
             sendmsg_sends l l' r s' x = x.sends (Call.Sendmsg h buf its) (connected_is ∙ rw (open', gone, z) refl)

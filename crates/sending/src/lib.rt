@@ -32,6 +32,7 @@ pub fn write_admitted(
     sendmsg_admitted(words, bytes, tokens, wakes, releases, n, c, h, buf, &[])
 }
 
+#[tactic(auto, unfolding(storage::specs::Finding::live_in, storage::specs::Finding::open_in))]
 pub fn sendmsg_admitted(
     words: &mut [u64],
     bytes: &mut [u8],
@@ -72,6 +73,7 @@ pub fn sendmsg_admitted(
 }
 
 // write and sendmsg from the open peer on. No admitted table has one that is not connected.
+#[tactic(auto, unfolding(storage::specs::Finding::open_in))]
 fn send(
     words: &mut [u64],
     bytes: &mut [u8],

@@ -1,19 +1,9 @@
-use Rattle.promise.proofs.Asked.{live-in}
 use Rattle.promise.proofs.Known.{known}
 use Rattle.accepting.proofs.Listening.{listen_stale, listen_closed, listen_unbound, listen_connected, listen_bound, listen_more, listen_less}
 use Rattle.accepting.proofs.listen_admitted.Goals as goal
 
 pub returns-then-not-is_live : goal.returns-then-not-is_live
 returns-then-not-is_live c = search listen_stale
-
-pub load-slot-requires : goal.load-slot-requires
-load-slot-requires c = search live-in
-
-pub store-requires : goal.store-requires
-store-requires c = search live-in
-
-pub store-requires-in-Listening : goal.store-requires-in-Listening
-store-requires-in-Listening c = search live-in
 
 pub returns-then-listener-backlog : goal.returns-then-listener-backlog
 returns-then-listener-backlog c = search (listen_more, known)

@@ -1,4 +1,3 @@
-use Rattle.promise.proofs.Asked.{live-in}
 use Rattle.pairing.proofs.Reaching.{connect_stale, connect_unnamed, connect_long, connect_closed, connect_bound, connect_listening, connect_connected, may_reach}
 use Rattle.pairing.proofs.connect_admitted.Goals as goal
 
@@ -10,9 +9,6 @@ returns-then-is_empty c = search (connect_unnamed, c.if-is_empty.ensures)
 
 pub returns-then-name-gt255 : goal.returns-then-name-gt255
 returns-then-name-gt255 c = search (connect_long, c.if-is_empty.ensures)
-
-pub load-requires : goal.load-requires
-load-requires c = search live-in
 
 pub reach-requires : goal.reach-requires
 reach-requires c = record { admitted = c.requires; caller = search (may_reach, c.if-is_empty.ensures) }

@@ -1,13 +1,9 @@
-use native.Mathlib.Omega.{arith}
 use Rattle.promise.proofs.Known.{known}
-use Rattle.pairing.proofs.Reaching.{found_in, found_handle, reach_none, reach_other, reach_full, reach_no_slot, join_asks, reach_made}
+use Rattle.pairing.proofs.Reaching.{found_handle, reach_none, reach_other, reach_full, reach_no_slot, join_asks, reach_made}
 use Rattle.pairing.proofs.reach.Goals as goal
 
 pub returns-in_default : goal.returns-in_default
 returns-in_default c = search (reach_none, known)
-
-pub load-found-requires : goal.load-found-requires
-load-found-requires c = search found_in
 
 pub returns-in_default-state : goal.returns-in_default-state
 returns-in_default-state c = search (reach_other, known, c.in_default-state.not-Listening)
@@ -25,13 +21,6 @@ join-requires c =
 
 pub handle-requires : goal.handle-requires
 handle-requires c = found_handle _ _ _ _ _ (known c.requires.admitted) c.requires.caller _ c.find.ensures _ c.in-Some.is _ c.load-found.ensures
-
-pub wake-requires : goal.wake-requires
-wake-requires c =
-    let a = c.requires.admitted in
-    let z = a.wake_list in
-    let y = a.some_slot in
-    omega arith
 
 pub returns : goal.returns
 returns c = search (reach_made, known)
