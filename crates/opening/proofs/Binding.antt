@@ -6,21 +6,20 @@ use mathlib.Core.Bool.{Bool, true, false, cond, not}
 use mathlib.Core.List.{List, [], ◌∷◌, ◌++◌}
 use Prim.Native.Nat.{ℕ, zero, suc, ◌+◌, ◌≤◌, ◌<◌}
 use native.Mathlib.Omega.{arith}
-use lib.Dec.{eqb}
 use lib.ListN.{length, take, drop, set}
 use lib.Seq.{sets, sets-eq, paste, take-paste, take_all, set-set}
-use borrow.Author.Tests.{le-leb, eqb-true, eqb-false}
+use borrow.Author.Tests.{le-leb}
 use Rattle.rules.specs.Table as model
 use Rattle.rules.specs.Table.{Table, at, put, slot_of, become, first, holds, holder}
 use Rattle.rules.specs.Outcome.{Call, Outcome, refuse, refuse_if, answer}
 use Rattle.rules.specs.Connecting.{do_bind}
-use Rattle.rules.specs.Run.{run}
+use Rattle.rules.specs.Run.{run, on_name}
 use Rattle.rules.proofs.Frame.{first_passes}
 use Rattle.storage.specs.Layout.{part, name_base}
 use Rattle.storage.specs.Cells.{cell_at, state_of, store_at, cell_of}
 use Rattle.storage.specs.Rows.{Store, Row, Around, lent, row_at, rows, with_cell, with_room, Roomy}
 use Rattle.storage.specs.View.{view, show, show_in}
-use Rattle.std.specs.Prelude.{Option, Some, None, is_some}
+use Rattle.std.specs.Prelude.{Option, Some, None, is_some, Result, Ok, Err}
 use Rattle.storage.proofs.Finds.{lowest-some, lowest-none}
 use Rattle.storage.specs.Finding.{lowest, live_in, least, holds_cell}
 use Rattle.storage.specs.declared.Slot.{Slot}
@@ -31,6 +30,10 @@ use Rattle.storage.proofs.Pasted.{length_part}
 use Rattle.storage.proofs.Framing.{store_rows, room_rows}
 use Rattle.storage.proofs.Around.{store_around, room_around, around_then, roomy_around}
 use Rattle.storage.proofs.Viewed.{size_view, at_none, holder_view}
+use Rattle.storage.specs.Naming.{name_refusal}
+use Rattle.storage.proofs.Naming.{name_refused, name_accepted}
+use Rattle.words.specs.Numbers.{number_of}
+use Rattle.words.specs.declared.Errno.{Errno}
 use Rattle.table.specs.Formed.{ranges_well}
 use Rattle.promise.specs.Answers.{refused_with, accepted_with}
 use Rattle.promise.specs.Hidden.{hidden_in, hidden_after, room_after, name_written}
@@ -131,25 +134,21 @@ module _ (n c : ℕ) (s : Store) (l : Lists) (h : ℕ) (m : List ℕ) (r : Answe
     mine : Live n c s h
     mine = live n c s h b eb lv
 
-    pub bind_nothing : true ≡ eqb (length m) 0 → r ≡ refused_with 2 → Done (run (view n c s) (Call.Bind h m)) n c s s l l r
-    unfolding run
-    bind_nothing e er = refused_done _ 2 n c s l r (no_name n c s h mine _ m (eqb-true _ 0 (sym e))) (λ z. omega arith) er
-
-    module _ (named : false ≡ eqb (length m) 0) where
-      some : length m ≢ 0
-      some = eqb-false _ 0 (sym named)
-
-      pub bind_long : 255 < length m → r ≡ refused_with 17 → Done (run (view n c s) (Call.Bind h m)) n c s s l l r
+    module _ (q : Result Unit Errno) (eq : q ≡ name_refusal m) where
+      pub bind_unnamed : (e : Errno) → q ≡ Err e → r ≡ refused_with (number_of e) → Done (run (view n c s) (Call.Bind h m)) n c s s l l r
       unfolding run
-      bind_long e er = refused_done _ 17 n c s l r (long_name n c s h mine _ m some e) (λ z. omega arith) er
+      bind_unnamed e ee =
+          name_refused (λ k. r ≡ refused_with k → Done (on_name (view n c s) h m (do_bind (view n c s) h m (model.state_of (view n c s) h))) n c s s l l r) m q e eq ee
+          (λ z. refused_done _ 2 n c s l r (no_name n c s h mine _ m z) (λ y. omega arith))
+          (λ some g. refused_done _ 17 n c s l r (long_name n c s h mine _ m some g) (λ y. omega arith))
 
-      module _ (low : length m ≤ 255) (i : ℕ) (ei : i ≡ slot_of h) (x : Slot) (ex : x ≡ loaded_at s.words i) where
+      module _ (ok : q ≡ (Ok tt)) (i : ℕ) (ei : i ≡ slot_of h) (x : Slot) (ex : x ≡ loaded_at s.words i) where
         at_state : (σ : State) → x.state ≡ σ → Called n c s h i x.generation σ
         at_state σ es = called n c s h b i x σ eb lv ei ex es
 
         asked : (σ : State) → x.state ≡ σ → run (view n c s) (Call.Bind h m) ≡ do_bind (view n c s) h m (show_in (row_at n c s i) x.generation σ).state
         unfolding run
-        asked σ es = named_run n c s h mine _ m some low ∙ ap (do_bind (view n c s) h m) (at_state σ es).state_shown
+        asked σ es = named_run n c s h mine _ m (name_accepted m q eq ok).0 (name_accepted m q eq ok).1 ∙ ap (do_bind (view n c s) h m) (at_state σ es).state_shown
 
         pub bind_again : x.state ≢ Unbound → r ≡ refused_with 2 → Done (run (view n c s) (Call.Bind h m)) n c s s l l r
         bind_again ne er =
@@ -176,6 +175,7 @@ module _ (n c : ℕ) (s : Store) (l : Lists) (h : ℕ) (m : List ℕ) (r : Answe
           unfolding row_at
           bind_made kn b' w' e eb' ew er =
               let d = at_state Unbound es in
+              let low : length m ≤ 255 = (name_accepted m q eq ok).1 in
               let g : ℕ = x.generation in
               let hi : i < n = d.within in
               let full : length (row_at n c s i).room ≡ 255 = let z = kn.roomy.bytes in length_part (name_base n c i) 255 s.bytes (omega arith) in

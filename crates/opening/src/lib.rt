@@ -39,7 +39,7 @@ pub fn socket_admitted(
     Ok(Accepted::new(handles::handle(generation, i).0, 0))
 }
 
-#[tactic(auto, unfolding(storage::specs::Finding::live_in, storage::specs::Finding::open_in))]
+#[tactic(auto, unfolding(storage::specs::Finding::live_in, storage::specs::Finding::open_in, storage::specs::Naming::name_refusal))]
 pub fn bind_admitted(
     words: &mut [u64],
     bytes: &mut [u8],
@@ -57,12 +57,7 @@ pub fn bind_admitted(
     if !handles::is_live(words, n, h) {
         return Err(Errno::EBADF);
     }
-    if name.is_empty() {
-        return Err(Errno::EINVAL);
-    }
-    if 255 < name.len() {
-        return Err(Errno::ENAMETOOLONG);
-    }
+    names::refusal(name)?;
     let i = handles::slot_of(h);
     let slot = storage::load(words, i);
     let State::Unbound = slot.state else {

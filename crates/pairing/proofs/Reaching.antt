@@ -4,18 +4,17 @@ use mathlib.Core.Bool.{Bool, true, false, not}
 use mathlib.Core.List.{List, [], ◌∷◌}
 use Prim.Native.Nat.{ℕ, ◌+◌, ◌*◌, ◌≤◌, ◌<◌}
 use native.Mathlib.Omega.{arith}
-use lib.Dec.{eqb}
 use lib.ListN.{length, take}
 use lib.Seq.{sets}
-use borrow.Author.Tests.{le-leb, lt-leb, not-false, eqb-true, eqb-false}
-use Rattle.std.specs.Prelude.{Option, Some, None}
+use borrow.Author.Tests.{le-leb, lt-leb, not-false}
+use Rattle.std.specs.Prelude.{Option, Some, None, Result, Ok, Err}
 use Rattle.ring.specs.Ring.{queued}
 use Rattle.ring.proofs.Queued.{queued-length}
 use Rattle.rules.specs.Table as model
 use Rattle.rules.specs.Table.{Table, at, slot_of, handle, handle_at}
 use Rattle.rules.specs.Outcome.{Call, Outcome, refuse, answer, refuse_if}
 use Rattle.rules.specs.Connecting.{do_connect, reach, is_full, connected}
-use Rattle.rules.specs.Run.{run}
+use Rattle.rules.specs.Run.{run, on_name}
 use Rattle.storage.specs.Layout.{part, name_base}
 use Rattle.storage.specs.Cells.{cell_at, state_of}
 use Rattle.storage.specs.Rows.{Store, lent, row_at}
@@ -29,6 +28,10 @@ use Rattle.storage.specs.declared.State.TheVariants.{Closed, Unbound, Bound, Lis
 use Rattle.storage.proofs.Coding.{loaded_state, loaded_at}
 use Rattle.storage.proofs.Finds.{lowest-some, lowest-none}
 use Rattle.storage.proofs.Viewed.{at_none, seen, gen_at, holder_view}
+use Rattle.storage.specs.Naming.{name_refusal}
+use Rattle.storage.proofs.Naming.{name_refused, name_accepted}
+use Rattle.words.specs.Numbers.{number_of}
+use Rattle.words.specs.declared.Errno.{Errno}
 use Rattle.table.proofs.Links.{queue_long}
 use Rattle.promise.specs.Answers.{refused_with, accepted_with}
 use Rattle.promise.specs.Promise.{Lists, Stored, Done}
@@ -49,15 +52,14 @@ module _ (n c : ℕ) (s : Store) (ls : Lists) (h : ℕ) (m : List ℕ) (r : Answ
   connect_stale d er = refused_done _ 1 n c s ls r (stale_name n c s h b m _ eb d) (λ z. omega arith) er
 
   module _ (d : not b ≡ false) where
-    pub connect_unnamed : true ≡ eqb (length m) 0 → r ≡ refused_with 2 → Done (run (view n c s) (Call.Connect h m)) n c s s ls ls r
+    pub connect_unnamed : (q : Result Unit Errno) (e : Errno) → q ≡ name_refusal m → q ≡ Err e → r ≡ refused_with (number_of e) → Done (run (view n c s) (Call.Connect h m)) n c s s ls ls r
     unfolding run
-    connect_unnamed e er = refused_done _ 2 n c s ls r (no_name n c s h (live n c s h b eb d) _ m (eqb-true _ 0 (sym e))) (λ z. omega arith) er
+    connect_unnamed q e eq ee =
+        name_refused (λ k. r ≡ refused_with k → Done (on_name (view n c s) h m (do_connect (view n c s) h m (model.state_of (view n c s) h))) n c s s ls ls r) m q e eq ee
+        (λ z. refused_done _ 2 n c s ls r (no_name n c s h (live n c s h b eb d) _ m z) (λ y. omega arith))
+        (λ some g. refused_done _ 17 n c s ls r (long_name n c s h (live n c s h b eb d) _ m some g) (λ y. omega arith))
 
-    pub connect_long : false ≡ eqb (length m) 0 → 255 < length m → r ≡ refused_with 17 → Done (run (view n c s) (Call.Connect h m)) n c s s ls ls r
-    unfolding run
-    connect_long e g er = refused_done _ 17 n c s ls r (long_name n c s h (live n c s h b eb d) _ m (eqb-false _ 0 (sym e)) g) (λ z. omega arith) er
-
-    module _ (i : ℕ) (slot : Slot) (ei : i ≡ slot_of h) (es : slot ≡ loaded_at s.words i) (named : false ≡ eqb (length m) 0) (short : length m ≤ 255) where
+    module _ (q : Result Unit Errno) (eq : q ≡ name_refusal m) (ok : q ≡ (Ok tt)) (i : ℕ) (slot : Slot) (ei : i ≡ slot_of h) (es : slot ≡ loaded_at s.words i) where
       own : (σ : State) → slot.state ≡ σ → state_of (cell_at s.words (slot_of h)) ≡ σ
       own σ e = sym (loaded_state s.words ei es) ∙ e
 
@@ -66,7 +68,7 @@ module _ (n c : ℕ) (s : Store) (ls : Lists) (h : ℕ) (m : List ℕ) (r : Answ
       unfolding run
       by_state σ e =
           let l = live n c s h b eb d in
-          named_run n c s h l _ m (eqb-false _ 0 (sym named)) short ∙ ap (do_connect (view n c s) h m) (state_seen n c s h σ l.within (own σ e))
+          let z = name_accepted m q eq ok in named_run n c s h l _ m z.0 z.1 ∙ ap (do_connect (view n c s) h m) (state_seen n c s h σ l.within (own σ e))
 
       -- no live socket is closed
       pub connect_closed : slot.state ≡ Closed → Done (run (view n c s) (Call.Connect h m)) n c s s ls ls r
@@ -85,9 +87,10 @@ module _ (n c : ℕ) (s : Store) (ls : Lists) (h : ℕ) (m : List ℕ) (r : Answ
       connect_connected k e er = refused_done _ 5 n c s ls r (by_state (Connected k) e) (λ z. omega arith) er
 
 pub may_reach : (n : ℕ) (w : List ℕ) (h : ℕ) (m : List ℕ) (b : Bool) → b ≡ live_in n w h → not b ≡ false → (i : ℕ) (slot : Slot) → i ≡ slot_of h → slot ≡ loaded_at w i → slot.state ≡ Unbound
-    → false ≡ eqb (length m) 0 → length m ≤ 255 → Caller n w h m
-may_reach n w h m b eb d i slot ei es e named short =
-    record { lives = sym eb ∙ not-false b d; unbound = sym (loaded_state w ei es) ∙ e; some_name = eqb-false _ 0 (sym named); short_name = short }
+    → (q : Result Unit Errno) → q ≡ name_refusal m → q ≡ (Ok tt) → Caller n w h m
+may_reach n w h m b eb d i slot ei es e q eq ok =
+    let z = name_accepted m q eq ok in
+    record { lives = sym eb ∙ not-false b d; unbound = sym (loaded_state w ei es) ∙ e; some_name = z.0; short_name = z.1 }
 
 -- ── The socket of that name ──
 

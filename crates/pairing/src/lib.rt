@@ -36,12 +36,7 @@ pub fn connect_admitted(
     if !handles::is_live(words, n, h) {
         return Err(Errno::EBADF);
     }
-    if name.is_empty() {
-        return Err(Errno::EINVAL);
-    }
-    if 255 < name.len() {
-        return Err(Errno::ENAMETOOLONG);
-    }
+    names::refusal(name)?;
     let i = handles::slot_of(h);
     match storage::load(words, i).state {
         // no live socket is closed
