@@ -118,8 +118,9 @@ module _ (n c : ℕ) (s : Store) (l : Lists) (h k : ℕ) (r : Answer) (b : Bool)
     unfolding do_listen show_in
     listen_connected q es er = refused_done _ 2 n c s l r (heard n c s h k i x.generation (Connected q) (at_state (Connected q) es)) (λ z. omega arith) er
 
-    module _ (kn : Known n c s) (hk : k < 4294967296) (w' : List ℕ) where
-      pub listen_bound : (m : ℕ) → x.state ≡ Bound m → w' ≡ store_at s.words i (cell_of x.generation (Listening (first_listen m k))) → r ≡ accepted_with 0 0
+    -- k' is the backlog as the slot has it
+    module _ (kn : Known n c s) (hk : k < 4294967296) (w' : List ℕ) (k' : ℕ) (ek : k' ≡ k) where
+      pub listen_bound : (m : ℕ) → x.state ≡ Bound m → w' ≡ store_at s.words i (cell_of x.generation (Listening (first_listen m k'))) → r ≡ accepted_with 0 0
           → Done (run (view n c s) (Call.Listen h k)) n c s (lent w' s.bytes s.tokens) l l r
       unfolding row_at
       listen_bound m es ew er =
@@ -128,29 +129,31 @@ module _ (n c : ℕ) (s : Store) (l : Lists) (h k : ℕ) (r : Answer) (b : Bool)
           let low : m ≤ 255 = bound_range n c m (subst (λ (σ : State). ranges_well n c σ ≡ true) d.state (kn.ranges i d.within)) in
           let z = kn.some_slot in
           accepted_done _ _ 0 [] n c s _ l l r next
-          (cell_stored n c s (Call.Listen h k) i (cell_of x.generation (Listening (first_listen m k))) w' kn d.within ew (ap (λ (o : Outcome). o.next) next)
+          (cell_stored n c s (Call.Listen h k) i (cell_of x.generation (Listening (first_listen m k))) w' kn d.within
+          (ew ∙ ap (λ (y : ℕ). store_at s.words i (cell_of x.generation (Listening (first_listen m y)))) ek) (ap (λ (o : Outcome). o.next) next)
           (bound_fit n c x.generation m k (row_at n c s i) d.state (range_is n c (first_listen m k) low hk (omega arith) (omega arith)))
           (bound_keeps x.generation m k (row_at n c s i) d.state))
           refl refl er
 
-      module _ (q : Listener) (es : x.state ≡ Listening q) (ew : w' ≡ store_at s.words i (cell_of x.generation (Listening (listen_again q k)))) where
+      module _ (q : Listener) (es : x.state ≡ Listening q) (ew : w' ≡ store_at s.words i (cell_of x.generation (Listening (listen_again q k')))) where
         again_stored : Stored n c s (lent w' s.bytes s.tokens) (run (view n c s) (Call.Listen h k))
         unfolding row_at
         again_stored =
             let d = at_state (Listening q) es in
             let z = listener_at kn d.within d.state in
-            cell_stored n c s (Call.Listen h k) i (cell_of x.generation (Listening (listen_again q k))) w' kn d.within ew
+            cell_stored n c s (Call.Listen h k) i (cell_of x.generation (Listening (listen_again q k))) w' kn d.within
+            (ew ∙ ap (λ (y : ℕ). store_at s.words i (cell_of x.generation (Listening (listen_again q y)))) ek)
             (ap (λ (o : Outcome). o.next) (again_next n c s h k i x.generation q _ d refl))
             (again_fit n c x.generation k q (row_at n c s i) d.state z.2 (range_is n c (listen_again q k) z.0 hk z.2 z.3))
             (again_keeps x.generation k q (row_at n c s i) d.state)
 
-        pub listen_more : (l' : Lists) → q.backlog < k → l'.wakes ≡ set l.wakes 0 0 → l'.releases ≡ l.releases → r ≡ accepted_with 0 1
+        pub listen_more : (l' : Lists) → q.backlog < k' → l'.wakes ≡ set l.wakes 0 0 → l'.releases ≡ l.releases → r ≡ accepted_with 0 1
             → Done (run (view n c s) (Call.Listen h k)) n c s (lent w' s.bytes s.tokens) l l' r
         listen_more l' lt el er ea =
             accepted_done _ _ 0 (registry ∷ []) n c s _ l l' r
-            (again_next n c s h k i x.generation q true (at_state (Listening q) es) (lt-ltb q.backlog k lt)) again_stored el er ea
+            (again_next n c s h k i x.generation q true (at_state (Listening q) es) (lt-ltb q.backlog k (omega arith))) again_stored el er ea
 
-        pub listen_less : k ≤ q.backlog → r ≡ accepted_with 0 0 → Done (run (view n c s) (Call.Listen h k)) n c s (lent w' s.bytes s.tokens) l l r
+        pub listen_less : k' ≤ q.backlog → r ≡ accepted_with 0 0 → Done (run (view n c s) (Call.Listen h k)) n c s (lent w' s.bytes s.tokens) l l r
         listen_less le ea =
             accepted_done _ _ 0 [] n c s _ l l r
-            (again_next n c s h k i x.generation q false (at_state (Listening q) es) (le-ltb q.backlog k le)) again_stored refl refl ea
+            (again_next n c s h k i x.generation q false (at_state (Listening q) es) (le-ltb q.backlog k (omega arith))) again_stored refl refl ea

@@ -1,4 +1,5 @@
 // listen and accept, on a table that has been admitted.
+// Stays: the lent lists are parameters of their own, since each call writes some and only reads others, as C's pointers say: a struct of all would ask to write every one.
 #![tactic(auto)]
 
 ghost use Rattle.std.specs.Prelude.{length};
@@ -12,6 +13,7 @@ use promise::Accepted;
 use storage::{Connection, Listener, Slot, State, handles, queues};
 use words::{Errno, Handle};
 
+#[tactic(auto, unfolding(storage::specs::Finding::live_in, storage::specs::Finding::open_in))]
 pub fn listen_admitted(
     words: &mut [u64],
     bytes: &[u8],
@@ -31,6 +33,7 @@ pub fn listen_admitted(
     }
     let i = handles::slot_of(h);
     let slot = storage::load(words, i);
+    let backlog = u64::from(backlog);
     match slot.state {
         // no live socket is closed
         State::Closed => Err(Errno::DAMAGED),
@@ -38,7 +41,7 @@ pub fn listen_admitted(
         State::Bound(name) => {
             let state = State::Listening(Listener {
                 name,
-                backlog: backlog as u64,
+                backlog,
                 head: 0,
                 pending: 0,
             });
@@ -47,20 +50,22 @@ pub fn listen_admitted(
         }
         State::Listening(listener) => {
             let state = State::Listening(Listener {
-                backlog: backlog as u64,
+                backlog,
                 ..listener
             });
             storage::store(words, i, Slot { state, ..slot });
-            if listener.backlog < backlog as u64 {
+            if listener.backlog < backlog {
                 wakes[0] = 0;
-                return Ok(Accepted::new(0, 1));
+                Ok(Accepted::new(0, 1))
+            } else {
+                Ok(Accepted::new(0, 0))
             }
-            Ok(Accepted::new(0, 0))
         }
         State::Connected(_) => Err(Errno::EINVAL),
     }
 }
 
+#[tactic(auto, unfolding(storage::specs::Finding::live_in, storage::specs::Finding::open_in))]
 pub fn accept_admitted(
     words: &mut [u64],
     bytes: &[u8],

@@ -4,7 +4,7 @@ use mathlib.Core.Logic.{◌≢◌}
 use mathlib.Core.Bool.{true≢false}
 use mathlib.Core.Bool.{Bool, true, false, cond, not}
 use mathlib.Core.List.{List, [], ◌∷◌, ◌++◌}
-use Prim.Native.Nat.{ℕ, zero, suc, ◌+◌, ◌*◌, ◌≤◌, ◌<◌}
+use Prim.Native.Nat.{ℕ, zero, suc, ◌+◌, ◌≤◌, ◌<◌}
 use native.Mathlib.Omega.{arith}
 use lib.ListN.{length, take, drop, set}
 use lib.Seq.{sets, sets-eq, paste, take-paste, take_all, set-set}
@@ -13,13 +13,13 @@ use Rattle.rules.specs.Table as model
 use Rattle.rules.specs.Table.{Table, at, put, slot_of, become, first, holds, holder}
 use Rattle.rules.specs.Outcome.{Call, Outcome, refuse, refuse_if, answer}
 use Rattle.rules.specs.Connecting.{do_bind}
-use Rattle.rules.specs.Run.{run}
+use Rattle.rules.specs.Run.{run, on_name}
 use Rattle.rules.proofs.Frame.{first_passes}
 use Rattle.storage.specs.Layout.{part, name_base}
 use Rattle.storage.specs.Cells.{cell_at, state_of, store_at, cell_of}
 use Rattle.storage.specs.Rows.{Store, Row, Around, lent, row_at, rows, with_cell, with_room, Roomy}
 use Rattle.storage.specs.View.{view, show, show_in}
-use Rattle.std.specs.Prelude.{Option, Some, None, is_some}
+use Rattle.std.specs.Prelude.{Option, Some, None, is_some, Result, Ok, Err}
 use Rattle.storage.proofs.Finds.{lowest-some, lowest-none}
 use Rattle.storage.specs.Finding.{lowest, live_in, least, holds_cell}
 use Rattle.storage.specs.declared.Slot.{Slot}
@@ -30,8 +30,11 @@ use Rattle.storage.proofs.Pasted.{length_part}
 use Rattle.storage.proofs.Framing.{store_rows, room_rows}
 use Rattle.storage.proofs.Around.{store_around, room_around, around_then, roomy_around}
 use Rattle.storage.proofs.Viewed.{size_view, at_none, holder_view}
+use Rattle.storage.specs.Naming.{name_refusal}
+use Rattle.storage.proofs.Naming.{name_refused, name_accepted}
+use Rattle.words.specs.Numbers.{number_of}
+use Rattle.words.specs.declared.Errno.{Errno}
 use Rattle.table.specs.Formed.{ranges_well}
-use Rattle.table.specs.Admission.{Admitted}
 use Rattle.promise.specs.Answers.{refused_with, accepted_with}
 use Rattle.promise.specs.Hidden.{hidden_in, hidden_after, room_after, name_written}
 use Rattle.promise.specs.Promise.{Lists, Stored, Done}
@@ -70,11 +73,6 @@ module _ (n c : ℕ) (s : Store) (m : List ℕ) (f : ℕ) (ef : f ≡ least n (�
   not_held e = let z = found in ap (holds m) (at_none n c s (holder (view n c s) m) (omega arith))
 
 -- ── A name that is written ──
-
--- there is room for it
-pub name_in : {n c : ℕ} {w b t : List ℕ} {x y : ℕ} → Admitted n c (lent w b t) x y → (h : ℕ) (v : Bool) (i : ℕ) → v ≡ live_in n w h → not v ≡ false → i ≡ slot_of h → (m : List ℕ) → length m ≤ 255
-    → (i < n) × (c * n + 255 * n ≤ length b) × (length m ≤ 255)
-name_in {n} {c} {w} {b} {t} a h v i ev lv ei m low = let z = (live n c (lent w b t) h v ev lv).within in (omega arith, a.bytes, low)
 
 paste-sets : (l m : List ℕ) → length m ≤ length l → sets l 0 m ≡ paste l 0 m (length m)
 paste-sets l m h = sets-eq m l 0 (omega arith) ∙ ap (λ (x : List ℕ). x ++ drop (0 + length m) l) (sym (take_all (length m) m (omega arith)))
@@ -117,11 +115,11 @@ bind_other t h m r g (Connected k) a b = refl
 
 -- ── What a search for the name found ──
 
-pub found_one : (n : ℕ) (p : ℕ → Bool) (r : Option ℕ) → r ≡ lowest n p → is_some r ≡ true → least n p ≢ n
+found_one : (n : ℕ) (p : ℕ → Bool) (r : Option ℕ) → r ≡ lowest n p → is_some r ≡ true → least n p ≢ n
 found_one n p (Some i) e h = let z = lowest-some n p (Some i) i e refl in let b = z.1 in λ y. omega (arith, z.0)
 found_one n p None e h = absurd (true≢false (sym h))
 
-pub found_nothing : (n : ℕ) (p : ℕ → Bool) (r : Option ℕ) → r ≡ lowest n p → is_some r ≡ false → least n p ≡ n
+found_nothing : (n : ℕ) (p : ℕ → Bool) (r : Option ℕ) → r ≡ lowest n p → is_some r ≡ false → least n p ≡ n
 found_nothing n p (Some i) e h = absurd (true≢false h)
 found_nothing n p None e h = lowest-none n p None e refl
 
@@ -136,22 +134,21 @@ module _ (n c : ℕ) (s : Store) (l : Lists) (h : ℕ) (m : List ℕ) (r : Answe
     mine : Live n c s h
     mine = live n c s h b eb lv
 
-    pub bind_nothing : length m ≡ 0 → r ≡ refused_with 2 → Done (run (view n c s) (Call.Bind h m)) n c s s l l r
-    unfolding run
-    bind_nothing e er = refused_done _ 2 n c s l r (no_name n c s h mine _ m e) (λ z. omega arith) er
-
-    module _ (some : length m ≢ 0) where
-      pub bind_long : 255 < length m → r ≡ refused_with 17 → Done (run (view n c s) (Call.Bind h m)) n c s s l l r
+    module _ (q : Result Unit Errno) (eq : q ≡ name_refusal m) where
+      pub bind_unnamed : (e : Errno) → q ≡ Err e → r ≡ refused_with (number_of e) → Done (run (view n c s) (Call.Bind h m)) n c s s l l r
       unfolding run
-      bind_long e er = refused_done _ 17 n c s l r (long_name n c s h mine _ m some e) (λ z. omega arith) er
+      bind_unnamed e ee =
+          name_refused (λ k. r ≡ refused_with k → Done (on_name (view n c s) h m (do_bind (view n c s) h m (model.state_of (view n c s) h))) n c s s l l r) m q e eq ee
+          (λ z. refused_done _ 2 n c s l r (no_name n c s h mine _ m z) (λ y. omega arith))
+          (λ some g. refused_done _ 17 n c s l r (long_name n c s h mine _ m some g) (λ y. omega arith))
 
-      module _ (low : length m ≤ 255) (i : ℕ) (ei : i ≡ slot_of h) (x : Slot) (ex : x ≡ loaded_at s.words i) where
+      module _ (ok : q ≡ (Ok tt)) (i : ℕ) (ei : i ≡ slot_of h) (x : Slot) (ex : x ≡ loaded_at s.words i) where
         at_state : (σ : State) → x.state ≡ σ → Called n c s h i x.generation σ
         at_state σ es = called n c s h b i x σ eb lv ei ex es
 
         asked : (σ : State) → x.state ≡ σ → run (view n c s) (Call.Bind h m) ≡ do_bind (view n c s) h m (show_in (row_at n c s i) x.generation σ).state
         unfolding run
-        asked σ es = named_run n c s h mine _ m some low ∙ ap (do_bind (view n c s) h m) (at_state σ es).state_shown
+        asked σ es = named_run n c s h mine _ m (name_accepted m q eq ok).0 (name_accepted m q eq ok).1 ∙ ap (do_bind (view n c s) h m) (at_state σ es).state_shown
 
         pub bind_again : x.state ≢ Unbound → r ≡ refused_with 2 → Done (run (view n c s) (Call.Bind h m)) n c s s l l r
         bind_again ne er =
@@ -160,24 +157,25 @@ module _ (n c : ℕ) (s : Store) (l : Lists) (h : ℕ) (m : List ℕ) (r : Answe
             (λ z. let d = at_state Closed z in not_closed n c s h d.lives (ap (λ (j : ℕ). state_of (cell_at s.words j)) (sym ei) ∙ d.state)))
             (λ z. omega arith) er
 
-        module _ (es : x.state ≡ Unbound) (f : ℕ) (ef : f ≡ least n (λ j. holds_cell (cell_at s.words j) (part (name_base n c j) 255 s.bytes) m)) where
-          pub bind_taken : f ≢ n → r ≡ refused_with 3 → Done (run (view n c s) (Call.Bind h m)) n c s s l l r
+        module _ (es : x.state ≡ Unbound) (o : Option ℕ) (eo : o ≡ lowest n (λ j. holds_cell (cell_at s.words j) (part (name_base n c j) 255 s.bytes) m)) (y : Bool) (ey : y ≡ is_some o) where
+          pub bind_taken : y ≡ true → r ≡ refused_with 3 → Done (run (view n c s) (Call.Bind h m)) n c s s l l r
           unfolding do_bind show_in refuse_if
-          bind_taken ne er = refused_done _ 3 n c s l r (asked Unbound es ∙ rw (held n c s m f ef ne)) (λ z. omega arith) er
+          bind_taken some er = refused_done _ 3 n c s l r (asked Unbound es ∙ rw (held n c s m _ refl (found_one n _ o eo (sym ey ∙ some)))) (λ z. omega arith) er
 
-          bind_next : f ≡ n → length m ≤ length (row_at n c s i).room → run (view n c s) (Call.Bind h m) ≡ answer (put (view n c s) i (show (bound_row x.generation m (row_at n c s i)))) 0 [] []
+          bind_next : y ≡ false → length m ≤ length (row_at n c s i).room → run (view n c s) (Call.Bind h m) ≡ answer (put (view n c s) i (show (bound_row x.generation m (row_at n c s i)))) 0 [] []
           unfolding do_bind show_in refuse_if
           bind_next e room =
               let d = at_state Unbound es in
-              asked Unbound es ∙ ap (λ (v : Bool). cond v (refuse (view n c s) 3) (answer (become (view n c s) h (model.State.Bound m)) 0 [] [])) (not_held n c s m f ef e)
+              asked Unbound es ∙ ap (λ (v : Bool). cond v (refuse (view n c s) 3) (answer (become (view n c s) h (model.State.Bound m)) 0 [] [])) (not_held n c s m _ refl (found_nothing n _ o eo (sym ey ∙ e)))
               ∙ ap (λ (t : Table). answer t 0 [] []) (become_is (view n c s) h i _ (model.State.Bound m) ei d.shown ∙ ap (put (view n c s) i) (sym (shown_bound x.generation m (row_at n c s i) room)))
 
-          pub bind_made : Known n c s → (b' w' : List ℕ) → f ≡ n → b' ≡ paste s.bytes (name_base n c i) (drop 0 m) (length m)
+          pub bind_made : Known n c s → (b' w' : List ℕ) → y ≡ false → b' ≡ paste s.bytes (name_base n c i) (drop 0 m) (length m)
               → w' ≡ store_at s.words i (cell_of x.generation (Bound (length m))) → r ≡ accepted_with 0 0
               → Done (run (view n c s) (Call.Bind h m)) n c s (lent w' b' s.tokens) l l r
           unfolding row_at
           bind_made kn b' w' e eb' ew er =
               let d = at_state Unbound es in
+              let low : length m ≤ 255 = (name_accepted m q eq ok).1 in
               let g : ℕ = x.generation in
               let hi : i < n = d.within in
               let full : length (row_at n c s i).room ≡ 255 = let z = kn.roomy.bytes in length_part (name_base n c i) 255 s.bytes (omega arith) in

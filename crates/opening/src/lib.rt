@@ -1,4 +1,5 @@
 // socket and bind, on a table that has been admitted.
+// Stays: the lent lists are parameters of their own, since each call writes some and only reads others, as C's pointers say: a struct of all would ask to write every one.
 #![tactic(auto)]
 
 ghost use Rattle.std.specs.Prelude.{length};
@@ -12,6 +13,7 @@ use promise::Accepted;
 use storage::{Slot, State, handles, names};
 use words::{Errno, Handle};
 
+#[tactic(auto, unfolding(storage::specs::Finding::lowest))]
 pub fn socket_admitted(
     words: &mut [u64],
     bytes: &[u8],
@@ -37,6 +39,7 @@ pub fn socket_admitted(
     Ok(Accepted::new(handles::handle(generation, i).0, 0))
 }
 
+#[tactic(auto, unfolding(storage::specs::Finding::live_in, storage::specs::Finding::open_in, storage::specs::Naming::name_refusal))]
 pub fn bind_admitted(
     words: &mut [u64],
     bytes: &mut [u8],
@@ -54,12 +57,7 @@ pub fn bind_admitted(
     if !handles::is_live(words, n, h) {
         return Err(Errno::EBADF);
     }
-    if name.is_empty() {
-        return Err(Errno::EINVAL);
-    }
-    if 255 < name.len() {
-        return Err(Errno::ENAMETOOLONG);
-    }
+    names::refusal(name)?;
     let i = handles::slot_of(h);
     let slot = storage::load(words, i);
     let State::Unbound = slot.state else {

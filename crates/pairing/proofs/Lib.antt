@@ -1,4 +1,3 @@
 pub mod Pigeons
 pub mod Joining
-pub mod Storing
 pub mod Reaching

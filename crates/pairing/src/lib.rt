@@ -1,16 +1,16 @@
 // connect, on a table that has been admitted.
+// Stays: the lent lists are parameters of their own, since each call writes some and only reads others, as C's pointers say: a struct of all would ask to write every one.
 #![tactic(auto)]
 
-ghost use Rattle.std.specs.Prelude.{◌≡◌, [], ◌∷◌, ◌+◌, ◌*◌, ◌≤◌, ◌<◌, length};
-ghost use Rattle.std.proofs.lemmas.List.Edits.{sets};
-ghost use Rattle.rules.specs.Table.{slot_of, handle};
+ghost use Rattle.std.specs.Prelude.{◌≡◌, ◌+◌, ◌*◌, ◌≤◌, ◌<◌, length};
+ghost use Rattle.rules.specs.Table.{slot_of};
 ghost use Rattle.rules.specs.Outcome.{Call};
 ghost use Rattle.storage.specs.Cells.{cell_at};
 ghost use Rattle.storage.specs.Rows.{lent};
 ghost use Rattle.table.specs.Admission.{Admitted};
 ghost use Rattle.promise.specs.Answers.{told};
 ghost use Rattle.promise.specs.Promise.{lists, Runs};
-ghost use Rattle.pairing.specs.Pairs.{new_end, pair_in, queue_up, joined};
+ghost use Rattle.pairing.specs.Pairs.{new_end, joined};
 ghost use Rattle.pairing.specs.Callers.{Caller};
 
 use inbox::Inbox;
@@ -18,6 +18,7 @@ use promise::Accepted;
 use storage::{Connection, Listener, Slot, State, handles, names, queues};
 use words::{Errno, Handle};
 
+#[tactic(auto, unfolding(storage::specs::Finding::live_in, storage::specs::Finding::open_in))]
 pub fn connect_admitted(
     words: &mut [u64],
     bytes: &[u8],
@@ -35,12 +36,7 @@ pub fn connect_admitted(
     if !handles::is_live(words, n, h) {
         return Err(Errno::EBADF);
     }
-    if name.is_empty() {
-        return Err(Errno::EINVAL);
-    }
-    if 255 < name.len() {
-        return Err(Errno::ENAMETOOLONG);
-    }
+    names::refusal(name)?;
     let i = handles::slot_of(h);
     match storage::load(words, i).state {
         // no live socket is closed
@@ -53,6 +49,7 @@ pub fn connect_admitted(
 }
 
 // An unbound caller, from the name on.
+#[tactic(auto, unfolding(storage::specs::Finding::lowest))]
 fn reach(
     words: &mut [u64],
     bytes: &[u8],
@@ -81,62 +78,34 @@ fn reach(
     let Some(j) = handles::lowest_free(words, n) else {
         return Err(Errno::ENFILE);
     };
-    join(words, n, h, l, found.generation, listener, j);
-    wake(wakes, handles::handle(found.generation, l), h);
+    join(words, n, h, l, found, listener, j);
+    wakes[0] = handles::handle(found.generation, l).0;
+    wakes[1] = h.0;
     Ok(Accepted::new(0, 2))
 }
 
-// The wake list of two notifications.
-fn wake(wakes: &mut [u64], first: Handle, then: Handle)
-    requires { 2 ≤ length wakes.old }
-    ensures { wakes.new ≡ sets wakes.old 0 (first.0 ∷ then.0 ∷ []) }
-{
-    wakes[0] = first.0;
-    wakes[1] = then.0;
-}
-
-// The caller `h` and a new server in slot `j`; the server waits for the listener of slot `l`.
-fn join(
-    words: &mut [u64],
-    n: usize,
-    h: Handle,
-    l: usize,
-    generation: u64,
-    listener: Listener,
-    j: usize,
-)
+// The caller `h` and a new server in slot `j`, each the other's peer; the server waits for the
+// listener of slot `l`, last in its queue.
+#[tactic(auto, unfolding(crate::specs::Pairs::joined, crate::specs::Pairs::pair_in, crate::specs::Pairs::queue_up))]
+fn join(words: &mut [u64], n: usize, h: Handle, l: usize, found: Slot, listener: Listener, j: usize)
     requires slots_in { (slot_of h.0 < n) × (l < n) × (j < n) × (n ≤ 1024) × (8 + 272 * n + n * n ≤ length words.old) }
     requires numbers_fit { ((cell_at words.old j).generation < 4294967295) × (listener.head < n) × (listener.pending ≤ n) }
-    ensures { words.new ≡ joined n words.old h.0 l generation listener j }
+    ensures { words.new ≡ joined n words.old h.0 l found.generation listener j }
 {
-    let own = storage::load(words, handles::slot_of(h)).generation;
-    let new = storage::load(words, j).generation + 1;
-    let at = ring::place(n, listener.head + listener.pending);
-    let server = pair(words, h, own, j, new, l, at);
-    queue_up(words, n, l, generation, listener, at, server);
-}
-
-// A server of this generation in slot `j`, and the caller, of its own generation: each is the
-// other's peer.
-fn pair(
-    words: &mut [u64],
-    h: Handle,
-    own: u64,
-    j: usize,
-    generation: u64,
-    l: usize,
-    at: usize,
-) -> Handle
-    requires { (8 + 16 * j + 16 ≤ length words.old) × (8 + 16 * slot_of h.0 + 16 ≤ length words.old) × (generation ≤ 4294967295) × (j < 65536) × (l < 65536) }
-    ensures { (result.0 ≡ handle generation j) × (words.new ≡ pair_in words.old h.0 own j generation l at) }
-{
+    let caller = storage::load(words, handles::slot_of(h));
+    let generation = storage::load(words, j).generation + 1;
     let server = handles::handle(generation, j);
+    let at = ring::place(n, listener.head + listener.pending);
     let state = State::Connected(new_end(h, l + 1, at));
     storage::store(words, j, Slot { generation, state });
     let state = State::Connected(new_end(server, 0, 0));
-    let generation = own;
-    storage::store(words, handles::slot_of(h), Slot { generation, state });
-    server
+    storage::store(words, handles::slot_of(h), Slot { state, ..caller });
+    queues::put_entry(words, n, l, at, server);
+    let state = State::Listening(Listener {
+        pending: listener.pending + 1,
+        ..listener
+    });
+    storage::store(words, l, Slot { state, ..found });
 }
 
 // One of a new pair: nothing is queued, and nothing shut down.
@@ -151,25 +120,4 @@ fn new_end(peer: Handle, waits: usize, place: usize) -> Connection
         waits,
         place,
     }
-}
-
-// The server last in the queue of slot `l`.
-fn queue_up(
-    words: &mut [u64],
-    n: usize,
-    l: usize,
-    generation: u64,
-    listener: Listener,
-    at: usize,
-    server: Handle,
-)
-    requires { (l < n) × (at < n) × (n ≤ 1024) × (8 + 272 * n + n * n ≤ length words.old) × (listener.pending ≤ n) }
-    ensures { words.new ≡ queue_up n words.old l generation listener at server.0 }
-{
-    queues::put_entry(words, n, l, at, server);
-    let state = State::Listening(Listener {
-        pending: listener.pending + 1,
-        ..listener
-    });
-    storage::store(words, l, Slot { generation, state });
 }

@@ -3,10 +3,10 @@ use mathlib.Core.Path.{◌≡◌, refl, sym, ap, ap₂, ◌∙◌, subst}
 use mathlib.Core.Logic.{◌≢◌}
 use mathlib.Core.Bool.{Bool, true, false, cond, not, ◌&&◌, ◌||◌}
 use mathlib.Core.List.{List, [], ◌∷◌}
-use Prim.Native.Nat.{ℕ, ◌+◌, ◌-◌, ◌*◌, ◌≤◌, ◌<◌, ◌^◌, min}
+use Prim.Native.Nat.{ℕ, ◌+◌, ◌-◌, ◌≤◌, ◌<◌, ◌^◌, min}
 use native.Mathlib.Omega.{arith}
 use lib.Dec.{leb, ltb}
-use borrow.Author.Tests.{lt-leb, not-false}
+use borrow.Author.Tests.{lt-leb}
 use lib.ListN.{length, take, set}
 use lib.Seq.{set-set}
 use Rattle.std.specs.Prelude.{Result, Ok, Err}
@@ -50,7 +50,6 @@ use Rattle.promise.specs.Answers.{refused_with, accepted_with}
 use Rattle.promise.specs.Promise.{Lists, lists, Done}
 use Rattle.promise.specs.declared.Answer.{Answer}
 use Rattle.promise.proofs.Known.{Known, known, refused_done, stay}
-use Rattle.promise.proofs.Asked.{slot_in}
 use Rattle.promise.proofs.Live.{Opened, opened, Live, live, live_run, stale_run, state_seen}
 use Rattle.promise.proofs.Kept.{row_changed}
 use Rattle.promise.proofs.Changed.{row_stored, accepted_done}
@@ -272,9 +271,6 @@ module _ {n c : ℕ} {w b t : List ℕ} {u v : ℕ} (a : Admitted n c (lent w b 
   pub peer_less : j < n
   peer_less = let z = op.within in omega arith
 
-  pub peer_in : 8 + 16 * j + 16 ≤ length w
-  peer_in = slot_in a j peer_less
-
   module _ (slot : Slot) (es : slot ≡ loaded_at w j) where
     pub sends_damaged : (buf its : List ℕ) (l : Lists) (r : Answer) → Unconnected slot.state → r ≡ refused_with 19
         → Sends n c (lent w b t) (lent w b t) p buf its l l r
@@ -300,32 +296,26 @@ module _ {n c : ℕ} {w b t : List ℕ} {u v : ℕ} (a : Admitted n c (lent w b 
       pub push_fits : (count con.inbox ≤ c) × (con.inbox.items ≤ 256)
       push_fits = let z = at_hand.well in (z.fits, z.items-in)
 
-      pub inbox_well : Well c (part (places_base n j) 256 w) con.inbox
+      pub push_well : Well c (part (places_base n j) 256 w) con.inbox
       unfolding row_at
-      inbox_well = subst (λ (i : ℕ). Well c (part (places_base n i) 256 w) con.inbox) (sym ej) at_hand.well
+      push_well = subst (λ (i : ℕ). Well c (part (places_base n i) 256 w) con.inbox) (sym ej) at_hand.well
 
       module _ (buf its : List ℕ) (d : Result Unit Errno) (ed : refusal_of d ≡ push_no c (count con.inbox) (length buf) con.inbox.items (length its)) where
         pub sends_refused : (l : Lists) (r : Answer) (x : Errno) → d ≡ Err x → r ≡ refused_with (number_of x) → Sends n c (lent w b t) (lent w b t) p buf its l l r
         sends_refused l r x ex er = refused_at n c w b t l buf its (known a) p o con at_slot d ed r x ex er
 
         module _ (yes : d ≡ (Ok tt)) where
-          may-push : MayPush c con.inbox buf its
-          may-push = sym ed ∙ ap refusal_of yes
-
-          pub push_asked : ((j < n) × Roomy n c (lent w b t)) × (Well c (part (places_base n j) 256 w) con.inbox × MayPush c con.inbox buf its)
-          push_asked = ((peer_less, (known a).roomy), (inbox_well, may-push))
+          pub push_may : MayPush c con.inbox buf its
+          push_may = sym ed ∙ ap refusal_of yes
 
           pub sends_pushed : (l : Lists) (r : Answer) (q : Pushed) (w₁ b₁ t₁ w₂ : List ℕ) → PushesAt n c j (lent w b t) (lent w₁ b₁ t₁) buf its con.inbox q
               → length w₁ ≡ length w → length b₁ ≡ length b → length t₁ ≡ length t
               → w₂ ≡ store_at w₁ j (cell_of slot.generation (Connected (with_inbox con q.inbox))) → r ≡ accepted_with q.moved 1
               → Sends n c (lent w b t) (lent w₂ b₁ t₁) p buf its l (lists (set l.wakes 0 p) l.releases) r
           sends_pushed l r q w₁ b₁ t₁ w₂ x lw lb lt ew er =
-              pushed_at n c w b t l buf its (known a) p o con at_slot d ed r may-push q w₁ b₁ t₁
+              pushed_at n c w b t l buf its (known a) p o con at_slot d ed r push_may q w₁ b₁ t₁
               (subst (λ (i : ℕ). PushesAt n c i (lent w b t) (lent w₁ b₁ t₁) buf its con.inbox q) ej x) lw lb lt w₂
               (ew ∙ ap₂ (λ (i : ℕ) (g : ℕ). store_at w₁ i (cell_of g (Connected (with_inbox con q.inbox)))) ej (loaded_generation w ej es)) er
-
-  pub peer_still : (w₁ : List ℕ) → length w₁ ≡ length w → 8 + 16 * j + 16 ≤ length w₁
-  peer_still w₁ e = let z = peer_in in omega arith
 
 -- ── sendmsg ──
 
@@ -381,9 +371,6 @@ module _ {n c : ℕ} {w b t : List ℕ} {u v : ℕ} (a : Admitted n c (lent w b 
           sendmsg_gone l r z er = refused_done _ 10 n c (lent w b t) l r (connected_is ∙ rw (open', gone, z) refl) (λ y. omega arith) er
 
           module _ (z : not g ≡ false) where
-            pub send_asked : Admitted n c (lent w b t) u v × (open_in n w con.peer.0 ≡ true)
-            send_asked = (a, sym eg ∙ not-false g z)
-
             pub sendmsg_sends : (l l' : Lists) (r : Answer) (s' : Store) → Sends n c (lent w b t) s' con.peer.0 buf its l l' r → Done sending n c (lent w b t) s' l l' r
             unfolding refuse_if
             sendmsg_sends l l' r s' x = x.sends (Call.Sendmsg h buf its) (connected_is ∙ rw (open', gone, z) refl)

@@ -1,4 +1,5 @@
 // write and sendmsg, on a table that has been admitted.
+// Stays: the lent lists are parameters of their own, since each call writes some and only reads others, as C's pointers say: a struct of all would ask to write every one.
 #![tactic(auto)]
 
 ghost use Rattle.std.specs.Prelude.{◌≡◌, true, length};
@@ -31,6 +32,7 @@ pub fn write_admitted(
     sendmsg_admitted(words, bytes, tokens, wakes, releases, n, c, h, buf, &[])
 }
 
+#[tactic(auto, unfolding(storage::specs::Finding::live_in, storage::specs::Finding::open_in))]
 pub fn sendmsg_admitted(
     words: &mut [u64],
     bytes: &mut [u8],
@@ -53,10 +55,7 @@ pub fn sendmsg_admitted(
     let State::Connected(connection) = slot.state else {
         return Err(Errno::ENOTCONN);
     };
-    if connection.outbox_closed {
-        return Err(Errno::EPIPE);
-    }
-    if !handles::is_open(words, n, connection.peer) {
+    if connection.outbox_closed || !handles::is_open(words, n, connection.peer) {
         return Err(Errno::EPIPE);
     }
     send(
@@ -74,6 +73,7 @@ pub fn sendmsg_admitted(
 }
 
 // write and sendmsg from the open peer on. No admitted table has one that is not connected.
+#[tactic(auto, unfolding(storage::specs::Finding::open_in))]
 fn send(
     words: &mut [u64],
     bytes: &mut [u8],
@@ -95,9 +95,8 @@ fn send(
     let State::Connected(peer) = slot.state else {
         return Err(Errno::DAMAGED);
     };
-    let inbox = peer.inbox;
-    inbox.push_refusal(c, buf.len(), items.len())?;
-    let pushed = inboxes::push(words, bytes, tokens, n, c, j, inbox, buf, items);
+    peer.inbox.push_refusal(c, buf.len(), items.len())?;
+    let pushed = inboxes::push(words, bytes, tokens, n, c, j, peer.inbox, buf, items);
     storage::store_inbox(words, j, slot.generation, peer, pushed.inbox);
     wakes[0] = p.0;
     Ok(Accepted::new(pushed.moved as u64, 1))

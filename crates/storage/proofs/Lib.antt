@@ -7,3 +7,4 @@ pub mod Lending
 pub mod Around
 pub mod Viewed
 pub mod Least
+pub mod Naming

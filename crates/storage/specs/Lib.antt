@@ -4,3 +4,4 @@ pub mod Rows
 pub mod View
 pub mod Finding
 pub mod Inboxes
+pub mod Naming

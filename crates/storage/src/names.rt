@@ -5,6 +5,21 @@ ghost use Rattle.rules.specs.Table.{same};
 ghost use Rattle.storage.specs.Layout.{part, name_base, HasSlots, HasNames};
 ghost use Rattle.storage.specs.Cells.{cell_at};
 ghost use Rattle.storage.specs.Finding.{holds_cell, lowest};
+ghost use Rattle.storage.specs.Naming.{name_refusal};
+
+use words::Errno;
+
+// A name has 1 to 255 bytes.
+#[tactic(auto, unfolding(crate::specs::Naming::name_refusal))]
+pub fn refusal(name: &[u8]) -> Result<(), Errno>
+    ensures { result ≡ name_refusal name.now }
+{
+    match name.len() {
+        0 => Err(Errno::EINVAL),
+        1..=255 => Ok(()),
+        _ => Err(Errno::ENAMETOOLONG),
+    }
+}
 
 // Names that differ mostly do so in their length, or their first or last eight bytes: these are asked first.
 // Stays: more than `a == b`. Tried, slower: that alone takes 16 ns for 255 bytes that differ in the last two, this 3.

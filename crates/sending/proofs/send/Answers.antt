@@ -1,73 +1,19 @@
-use mathlib.Core.Path.{refl}
-use borrow.Author.Rules.{rules}
-use Rattle.sending.proofs.Sending.{peer_in, peer_still, push_fits, push_asked, sends_damaged, sends_refused, sends_pushed}
-use Rattle.promise.specs.Promise.{lists}
 use Rattle.promise.proofs.Answering.{passed_on}
-use Rattle.promise.proofs.Asked.{some_wake}
+use Rattle.promise.proofs.Known.{known}
+use Rattle.sending.proofs.Sending.{peer_less, push_fits, push_well, push_may, sends_damaged, sends_refused, sends_pushed}
 use Rattle.sending.proofs.send.Goals as goal
 
-pub load-slot-requires : goal.load-slot-requires
-load-slot-requires c =
-    let a = c.args in
-    let pre = c.requires in
-    let j = c.slot_of-j in
-    peer_in pre.admitted a.p.0 pre.peer_open j.result j.ensures
-
 pub returns-in_default : goal.returns-in_default
-returns-in_default c =
-    let a = c.args in
-    let pre = c.requires in
-    let j = c.slot_of-j in
-    let s = c.load-slot in
-    sends_damaged pre.admitted a.p.0 pre.peer_open j.result j.ensures s.result s.ensures a.buf.now a.items.now (lists a.wakes.now a.releases.now) _ c.in_default.not-Connected refl
-
-pub push_refusal-requires : goal.push_refusal-requires
-push_refusal-requires c =
-    let a = c.args in
-    let pre = c.requires in
-    let j = c.slot_of-j in
-    let s = c.load-slot in
-    let k = c.in-Connected.is in
-    push_fits pre.admitted a.p.0 pre.peer_open j.result j.ensures s.result s.ensures c.in-Connected.peer (search k)
+returns-in_default c = search (sends_damaged, c.in_default.not-Connected)
 
 pub push-pushed-requires : goal.push-pushed-requires
-push-pushed-requires c =
-    let a = c.args in
-    let pre = c.requires in
-    let j = c.slot_of-j in
-    let s = c.load-slot in
-    let k = c.in-Connected.is in
-    let v = c.push_refusal in
-    let m = push_asked pre.admitted a.p.0 pre.peer_open j.result j.ensures s.result s.ensures c.in-Connected.peer (search k) a.buf.now a.items.now v.result v.ensures c.in_ok-push_refusal.was in
-    record { roomy = m.0; well = m.1.0; may_push = m.1.1 }
-
-pub store_inbox-requires : goal.store_inbox-requires
-store_inbox-requires c =
-    let a = c.args in
-    let pre = c.requires in
-    let j = c.slot_of-j in
-    search (peer_still pre.admitted a.p.0 pre.peer_open j.result j.ensures, rules)
-
-pub bounds-wakes-0 : goal.bounds-wakes-0
-bounds-wakes-0 c = some_wake c.requires.admitted
+push-pushed-requires c = record { roomy = (search peer_less, (known c.requires.admitted).roomy); well = search push_well; may_push = search (push_may, c.in_ok-push_refusal.was) }
 
 pub returns-in_err-push_refusal : goal.returns-in_err-push_refusal
-returns-in_err-push_refusal c =
-    let a = c.args in
-    let pre = c.requires in
-    let j = c.slot_of-j in
-    let s = c.load-slot in
-    let k = c.in-Connected.is in
-    let v = c.push_refusal in
-    sends_refused pre.admitted a.p.0 pre.peer_open j.result j.ensures s.result s.ensures c.in-Connected.peer (search k) a.buf.now a.items.now v.result v.ensures (lists a.wakes.now a.releases.now) _ _ c.in_err-push_refusal.was (passed_on _ _ c.from_residual.ensures.1)
+returns-in_err-push_refusal c = search (sends_refused, passed_on, c.in_err-push_refusal.was)
+
+pub push_refusal-requires : goal.push_refusal-requires
+push_refusal-requires c = push_fits c.requires.admitted _ c.requires.peer_open _ c.slot_of-j.ensures _ c.load-slot.ensures c.in-Connected.peer c.in-Connected.is
 
 pub returns : goal.returns
-returns c =
-    let a = c.args in
-    let pre = c.requires in
-    let j = c.slot_of-j in
-    let s = c.load-slot in
-    let k = c.in-Connected.is in
-    let v = c.push_refusal in
-    let q = c.push-pushed in
-    sends_pushed pre.admitted a.p.0 pre.peer_open j.result j.ensures s.result s.ensures c.in-Connected.peer (search k) a.buf.now a.items.now v.result v.ensures c.in_ok-push_refusal.was (lists a.wakes.now a.releases.now) _ q.result _ _ _ _ q.ensures (search rules) (search rules) (search rules) c.store_inbox.ensures c.new.ensures
+returns c = search (sends_pushed, c.in_ok-push_refusal.was)
