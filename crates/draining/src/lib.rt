@@ -34,11 +34,8 @@ pub fn read_admitted(
     if !handles::is_live(words, n, h) {
         return Err(Errno::EBADF);
     }
-    // nothing is handed over
-    let mut items = [0; 1];
-    let policy = AttachedItems::Drop;
     drain(
-        words, bytes, tokens, wakes, releases, n, c, h, buf, policy, &mut items,
+        words, bytes, tokens, wakes, releases, n, c, h, buf, AttachedItems::Drop, &mut [],
     )
 }
 
@@ -61,12 +58,11 @@ pub fn recvmsg_admitted(
     if !handles::is_live(words, n, h) {
         return Err(Errno::EBADF);
     }
-    if buf.len() == 0 {
+    if buf.is_empty() {
         return Err(Errno::EINVAL);
     }
-    let policy = AttachedItems::Take;
     drain(
-        words, bytes, tokens, wakes, releases, n, c, h, buf, policy, items,
+        words, bytes, tokens, wakes, releases, n, c, h, buf, AttachedItems::Take, items,
     )
 }
 
