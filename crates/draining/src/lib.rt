@@ -1,4 +1,5 @@
 // read and recvmsg, on a table that has been admitted.
+// Stays: the lent lists are parameters of their own, since each call writes some and only reads others, as C's pointers say: a struct of all would ask to write every one.
 #![tactic(auto)]
 
 ghost use Rattle.std.specs.Prelude.{◌≡◌, true, [], ◌<◌, length};
@@ -35,7 +36,17 @@ pub fn read_admitted(
         return Err(Errno::EBADF);
     }
     drain(
-        words, bytes, tokens, wakes, releases, n, c, h, buf, AttachedItems::Drop, &mut [],
+        words,
+        bytes,
+        tokens,
+        wakes,
+        releases,
+        n,
+        c,
+        h,
+        buf,
+        AttachedItems::Drop,
+        &mut [],
     )
 }
 
@@ -62,12 +73,23 @@ pub fn recvmsg_admitted(
         return Err(Errno::EINVAL);
     }
     drain(
-        words, bytes, tokens, wakes, releases, n, c, h, buf, AttachedItems::Take, items,
+        words,
+        bytes,
+        tokens,
+        wakes,
+        releases,
+        n,
+        c,
+        h,
+        buf,
+        AttachedItems::Take,
+        items,
     )
 }
 
 // read and recvmsg from the state on: the policy says what becomes of the group at the first queued
 // byte.
+#[tactic(auto, using(promise::proofs::Asked::some_wake))]
 fn drain(
     words: &mut [u64],
     bytes: &[u8],

@@ -1,4 +1,5 @@
 // close, on a table that has been admitted.
+// Stays: the lent lists are parameters of their own, since each call writes some and only reads others, as C's pointers say: a struct of all would ask to write every one.
 #![tactic(auto)]
 
 ghost use Rattle.std.specs.Prelude.{◌≡◌, true, ◌+◌, ◌*◌, ◌≤◌, ◌<◌, length};

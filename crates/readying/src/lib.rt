@@ -1,4 +1,5 @@
 // readiness, on a table that has been admitted.
+// Stays: the lent lists are parameters of their own, as in the calls that write some and only read others, as C's pointers say: a struct of all would ask to write every one.
 #![tactic(auto)]
 
 ghost use Rattle.std.specs.Prelude.{◌≡◌, length};
