@@ -55,19 +55,9 @@ impl From<ShutdownHow> for Ends {
     ghost from_gives = { λ how ends. ends ≡ record { inbox = reads_of how; outbox = writes_of how } };
 
     fn from(how: ShutdownHow) -> Ends {
-        match how {
-            ShutdownHow::Read => Ends {
-                inbox: true,
-                outbox: false,
-            },
-            ShutdownHow::Write => Ends {
-                inbox: false,
-                outbox: true,
-            },
-            ShutdownHow::Both => Ends {
-                inbox: true,
-                outbox: true,
-            },
+        Ends {
+            inbox: matches!(how, ShutdownHow::Read | ShutdownHow::Both),
+            outbox: matches!(how, ShutdownHow::Write | ShutdownHow::Both),
         }
     }
 }
