@@ -122,6 +122,7 @@ fn end_server(
 }
 
 // A listener closes, and then each pending server, oldest first.
+#[tactic(auto, using(promise::proofs::Asked::some_wake))]
 fn end_listener(
     words: &mut [u64],
     bytes: &[u8],
