@@ -29,18 +29,13 @@ struct Closing {
     releases: usize,
 }
 
+// The socket in slot `i` leaves it.
 fn leave(words: &mut [u64], i: usize, generation: u64)
     requires { HasSlot i words.old }
     ensures { words.new ≡ store_at words.old i (cell_of generation Closed) }
 {
-    storage::store(
-        words,
-        i,
-        Slot {
-            generation,
-            state: State::Closed,
-        },
-    );
+    let state = State::Closed;
+    storage::store(words, i, Slot { generation, state });
 }
 
 // A connected socket, in slot `i`.
@@ -68,22 +63,18 @@ impl Socket {
         requires lists_room { (done.wakes < length wakes.old) × (done.releases + 256 ≤ length releases.old) }
         ensures { Ends n self.i self.generation self.connection words.old words.new tokens.now wakes.old wakes.new releases.old releases.new done result }
     {
-        let Socket {
-            i,
-            generation,
-            connection,
-        } = self;
-        let peer_open = handles::is_open(words, n, connection.peer);
-        let discarded = inboxes::discard(tokens, c, i, connection.inbox, releases, done.releases);
+        let Connection { peer, inbox, .. } = self.connection;
+        let peer_open = handles::is_open(words, n, peer);
+        let discarded = inboxes::discard(tokens, c, self.i, inbox, releases, done.releases);
         let done = Closing {
             releases: done.releases + discarded.released,
             ..done
         };
-        leave(words, i, generation);
+        leave(words, self.i, self.generation);
         if !peer_open {
             return done;
         }
-        wakes[done.wakes] = connection.peer.0;
+        wakes[done.wakes] = peer.0;
         Closing {
             wakes: done.wakes + 1,
             ..done
