@@ -2,8 +2,8 @@
 use mathlib.Core.Path.{◌≡◌, refl, sym, ap, ◌∙◌}
 use mathlib.Core.Logic.{◌⊎◌, inl, inr}
 use mathlib.Core.Bool.{Bool, true, false, cond, not, ◌&&◌, ◌||◌}
-use mathlib.Core.List.{List, []}
-use Prim.Native.Nat.{ℕ, ◌+◌, ◌^◌, ◌≤◌, ◌<◌}
+use mathlib.Core.List.{[]}
+use Prim.Native.Nat.{ℕ, ◌+◌, ◌<◌}
 use native.Mathlib.Omega.{arith}
 use lib.Dec.{ltb, eqb}
 use lib.ListN.{length}
@@ -39,25 +39,6 @@ use Rattle.promise.proofs.Changed.{unchanged}
 use Rattle.promise.proofs.Held.{ring_long, inbox-in}
 use Rattle.promise.proofs.Live.{Live, live, opened, not_closed, state_seen, stale_run, live_run}
 use Rattle.readying.specs.Parts.{readable_of, room_in, writable_in, ready_in}
-
--- ── The parts ──
-
-bit_one : (b : Bool) → ◌≤◌ (cond b 1 0) 1
-bit_one true = omega arith
-bit_one false = omega arith
-
-bit_two : (b : Bool) → ◌≤◌ (cond b 2 0) 2
-bit_two true = omega arith
-bit_two false = omega arith
-
-pub sum_fits : (c : ℕ) (w : List ℕ) (j : ℕ) (k : Connection) (a b : ℕ) → a ≡ readable_of k → b ≡ writable_in c w j k → a + b < 2 ^ 64
-unfolding readable_of writable_in
-sum_fits c w j k a b ea eb =
-    let x = bit_one (not (eqb (count k.inbox) 0) || k.inbox_closed) in
-    let y = bit_two (not k.outbox_closed && room_in c (state_of (cell_at w j))) in
-    omega arith
-
--- ── The answer ──
 
 -- the length of what is queued
 pub bytes_long : (n c : ℕ) (s : Store) (i : ℕ) (k : Connection) → Known n c s → i < n → state_of (cell_at s.words i) ≡ Connected k → length (inbox.bytes_of (row_at n c s i).ring k.inbox) ≡ count k.inbox

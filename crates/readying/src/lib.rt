@@ -54,7 +54,7 @@ fn writable(words: &[u64], c: usize, j: usize, connection: Connection) -> u64
     }
 }
 
-#[tactic(auto, using(storage::proofs::Finds::open_slot, crate::proofs::Readying::sum_fits), unfolding(crate::specs::Parts::ready_in))]
+#[tactic(auto, using(storage::proofs::Finds::open_slot), unfolding(crate::specs::Parts::ready_in, crate::specs::Parts::readable_of, crate::specs::Parts::writable_in))]
 fn ready(words: &[u64], n: usize, c: usize, connection: Connection) -> u64
     requires { HasSlots n words.now }
     ensures { result ≡ ready_in n c words.now connection }

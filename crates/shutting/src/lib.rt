@@ -101,7 +101,8 @@ fn shut(
 ) -> Result<Accepted, Errno>
     requires admitted { Admitted n c (lent words.old bytes.now tokens.now) (length wakes.old) (length releases.old) }
     requires live { live_in n words.old h.0 ≡ true }
-    ensures { Shuts n c (lent words.old bytes.now tokens.now) (lent words.new bytes.now tokens.now) h.0 ends.inbox ends.outbox (lists wakes.old releases.old) (lists wakes.new releases.new) (told result) }
+    ensures { Shuts n c (lent words.old bytes.now tokens.now) (lent words.new bytes.now tokens.now) h.0 ends.inbox ends.outbox
+        (lists wakes.old releases.old) (lists wakes.new releases.new) (told result) }
 {
     let i = handles::slot_of(h);
     let slot = storage::load(words, i);
