@@ -54,14 +54,20 @@ use Rattle.promise.proofs.Changed.{Fit, fit_same, row_stored, rows_kept, release
 use Rattle.promise.proofs.Called.{Unconnected, unconnected}
 use Rattle.promise.proofs.Held.{ring_long, places_long, tokens_long, Held, held, placed_same, connected_fit, connected_keeps, connected_put}
 use Rattle.promise.proofs.Live.{Live, live, opened, live_run, stale_run, state_seen}
-use Rattle.shutting.specs.declared.Ends as own
-use Rattle.shutting.specs.Parts.{reads_of, writes_of, ended_with, left_of, dropped_of, Drops, Ends, Follows, Shuts}
+use Rattle.shutting.specs.declared.Ends.{Ends}
+use Rattle.shutting.specs.Parts.{reads_of, writes_of, ended_with, left_of, dropped_of, Drops, Follows, Shuts}
 use Rattle.shutting.proofs.Ended.{left_range, left_shows, dropped_all, dropped_long, left_hidden, stays_hidden}
 
 -- ── The parts ──
 
+-- the own socket k in slot i, of generation g: m items are released
+record OwnEnds (c i g : ℕ) (k : Connection) (rd wr : Bool) (w w' tokens releases releases' : List ℕ) (m : ℕ) : Type 0 where
+  words : w' ≡ store_at w i (cell_of g (Connected (ended_with k (left_of c rd k.inbox) rd wr)))
+  releases_it : releases' ≡ sets releases 0 (dropped_of rd (part (tokens_base i) 256 tokens) k.inbox)
+  released_are : m ≡ cond rd k.inbox.items 0
+
 own_ended : (c i g : ℕ) (k : Connection) (rd wr : Bool) (w w' t rl rl' : List ℕ) (d : Discarded) → Drops c (part (tokens_base i) 256 t) rl rl' rd k.inbox d
-    → w' ≡ store_at w i (cell_of g (Connected (ended_with k d.inbox rd wr))) → Ends c i g k rd wr w w' t rl rl' d.released
+    → w' ≡ store_at w i (cell_of g (Connected (ended_with k d.inbox rd wr))) → OwnEnds c i g k rd wr w w' t rl rl' d.released
 own_ended c i g k rd wr w w' t rl rl' d x e =
     record {
       words = e ∙ ap (λ (q : Inbox). store_at w i (cell_of g (Connected (ended_with k q rd wr)))) x.inbox_is;
@@ -143,12 +149,12 @@ module _ (n c : ℕ) (w b t : List ℕ) (kn : Known n c (lent w b t)) (h i : ℕ
   unfolding row_at
   items_are = dropped_all row.places row.tokens k.inbox lp lt hd.range.first_in hd.range.items-in rd
 
-  module _ (w₁ rl rl' : List ℕ) (m : ℕ) (en : Ends c i (cell_at w i).generation k rd wr w w₁ t rl rl' m) where
+  module _ (w₁ rl rl' : List ℕ) (m : ℕ) (en : OwnEnds c i (cell_at w i).generation k rd wr w w₁ t rl rl' m) where
     released_is : m ≡ length (cond rd (all_items old.groups) [])
     unfolding row_at
     released_is = en.released_are ∙ dropped_long row.places row.tokens k.inbox lp lt hd.range.first_in hd.range.items-in rd ∙ ap length items_are
 
-    pub shut_alone : (wk : List ℕ) (r : Answer) → is_open (view n c (lent w b t)) k.peer.0 ≡ false → r ≡ released_with 1 m
+    shut_alone : (wk : List ℕ) (r : Answer) → is_open (view n c (lent w b t)) k.peer.0 ≡ false → r ≡ released_with 1 m
         → Shuts n c (lent w b t) (lent w₁ b t) h rd wr (lists wk rl) (lists (set wk 0 h) rl') r
     shut_alone wk r o er =
         record {
@@ -233,7 +239,7 @@ module _ (n c : ℕ) (w b t : List ℕ) (kn : Known n c (lent w b t)) (h i : ℕ
           (ap (λ (z : ℕ). (at t₁ z).state) (sym hp.is_slot) ∙ ap (λ (x : model.Slot). x.state) peer_shown)
           ∙ connected_put (row_at n c s j) row₂ (cell_at w j).generation k₂ k₃ peer_says refl refl t₁ k.peer.0 j hp.is_slot peer_shown
 
-      pub shut_both : (w₂ wk : List ℕ) (r : Answer) → w₂ ≡ store_at w₁ j cell₂ → r ≡ released_with 2 m
+      shut_both : (w₂ wk : List ℕ) (r : Answer) → w₂ ≡ store_at w₁ j cell₂ → r ≡ released_with 2 m
           → Shuts n c (lent w b t) (lent w₂ b t) h rd wr (lists wk rl) (lists (set (set wk 0 h) 1 k.peer.0) rl') r
       shut_both w₂ wk r ew er =
           record {
@@ -301,7 +307,7 @@ module _ {n c : ℕ} {w b t : List ℕ} {u v : ℕ} (a : Admitted n c (lent w b 
 
             module _ (rd wr : Bool) (w₁ rl rl' : List ℕ) (left : Discarded) (dr : Drops c (part (tokens_base i) 256 t) rl rl' rd k.inbox left) (own_end : Connection) (eo : own_end ≡ ended_with k left.inbox rd wr)
                 (ew : w₁ ≡ store_at w i (cell_of slot.generation (Connected own_end))) where
-              ended : Ends c i (cell_at w i).generation k rd wr w w₁ t rl rl' left.released
+              ended : OwnEnds c i (cell_at w i).generation k rd wr w w₁ t rl rl' left.released
               ended =
                   own_ended c i (cell_at w i).generation k rd wr w w₁ t rl rl' left dr
                   (ew ∙ ap₂ (λ (g : ℕ) (q : Connection). store_at w i (cell_of g (Connected q))) (ap (λ (q : Slot). q.generation) es) eo)
@@ -419,10 +425,10 @@ module _ (n c : ℕ) (s : Store) (h : ℕ) (how : ℤ) (f : Bool) (ef : f ≡ li
         refused_done _ 2 n c s l r (live_run n c s h _ lives ∙ rw p.0 refl) (λ z. omega arith) (er ∙ ap refused_with p.1)
 
     module _ (m : ShutdownHow) (em : x ≡ Ok m) where
-      pub shutdown_shuts : (ends : own.Ends) → ends ≡ record { inbox = reads_of m; outbox = writes_of m } → (s' : Store) (l l' : Lists) (r : Answer) → Shuts n c s s' h ends.inbox ends.outbox l l' r
+      pub shutdown_shuts : (ends : Ends) → ends ≡ record { inbox = reads_of m; outbox = writes_of m } → (s' : Store) (l l' : Lists) (r : Answer) → Shuts n c s s' h ends.inbox ends.outbox l l' r
           → Done out n c s s' l l' r
       unfolding run refuse_if shuts_read shuts_write
       shutdown_shuts ends ee s' l l' r y =
           let p = one_of (equals how 0) (equals how 1) (equals how 2) m (λ e. (only how 0 1 (λ z. omega arith) e, only how 0 2 (λ z. omega arith) e)) (only how 1 2 (λ z. omega arith)) (asked (Ok m) em) in
           y.shuts (Call.Shutdown h how)
-          (live_run n c s h _ lives ∙ rw (p.0, p.1, p.2, sym (ap (λ (x : own.Ends). x.inbox) ee), sym (ap (λ (x : own.Ends). x.outbox) ee)) refl)
+          (live_run n c s h _ lives ∙ rw (p.0, p.1, p.2, sym (ap (λ (x : Ends). x.inbox) ee), sym (ap (λ (x : Ends). x.outbox) ee)) refl)
