@@ -1,13 +1,14 @@
 -- read and recvmsg
 use mathlib.Core.Path.{◌≡◌, refl, sym, ap, ap₂, ◌∙◌, subst}
 use mathlib.Core.Logic.{◌≢◌}
-use mathlib.Core.Bool.{Bool, true, false, cond, not, ◌||◌, true≢false}
+use mathlib.Core.Bool.{Bool, true, false, cond, not, ◌||◌}
 use mathlib.Core.List.{List, [], ◌∷◌}
 use Prim.Native.Nat.{ℕ, suc, ◌≤◌, ◌<◌}
 use native.Mathlib.Omega.{arith}
-use lib.ListN.{length, take, set}
+use lib.Dec.{eqb}
+use lib.ListN.{length, take}
 use lib.Seq.{sets}
-use borrow.Author.Tests.{eq-eqb, ne_eqb}
+use borrow.Author.Tests.{ne_eqb}
 use Rattle.laws.proofs.Tests.{cond_both}
 use Rattle.inbox.specs.View.{count}
 use Rattle.inbox.specs.Well.{Well}
@@ -44,28 +45,6 @@ use Rattle.promise.proofs.Live.{Live, live, live_run, stale_run, state_seen}
 use Rattle.promise.proofs.Called.{Unconnected, unconnected}
 use Rattle.promise.proofs.Held.{ring_long, places_long, tokens_long, inbox_in, Sized, sized, Held, held, gone_hidden, placed_same, connected_fit, connected_keeps, connected_put}
 use Rattle.draining.specs.Parts.{Drains, nothing_queued, Wakes}
-
--- ── The wake list ──
-
-pub none_woken : (wakes : List ℕ) (h : ℕ) (on : Bool) → not on ≡ true → Wakes wakes wakes h on 0
-none_woken wakes h true e = absurd (true≢false (sym e))
-none_woken wakes h false e = record { list = refl; filled = refl }
-
-pub one_woken : (wakes : List ℕ) (h : ℕ) (on : Bool) → not on ≡ false → Wakes wakes (set wakes 0 h) h on 1
-one_woken wakes h true e = record { list = refl; filled = refl }
-one_woken wakes h false e = absurd (true≢false e)
-
--- ── Nothing queued ──
-
-module _ (x o : Bool) (r : Answer) where
-  pub queued_shut : x ≡ true → r ≡ accepted_with 0 0 → r ≡ nothing_queued x o
-  queued_shut e er = rw e er
-
-  pub queued_gone : x ≡ false → not o ≡ true → r ≡ accepted_with 0 0 → r ≡ nothing_queued x o
-  queued_gone e f er = rw (e, f) er
-
-  pub queued_waits : x ≡ false → not o ≡ false → r ≡ refused_with 8 → r ≡ nothing_queued x o
-  queued_waits e f er = rw (e, f) er
 
 -- ── The rule ──
 
@@ -201,6 +180,15 @@ module _ {n c : ℕ} {w b t : List ℕ} {u v : ℕ} (a : Admitted n c (lent w b 
   lv : Live n c (lent w b t) h
   lv = live n c (lent w b t) h true (sym e) refl
 
+  pub slot_within : i < n
+  slot_within = let y = lv.within in omega arith
+
+  pub all_roomy : Roomy n c (lent w b t)
+  all_roomy = (known a).roomy
+
+  pub releases_long : 256 ≤ v
+  releases_long = let y = a.release_list in let z = a.some_slot in omega arith
+
   module _ (slot : Slot) (es : slot ≡ loaded_at w i) where
     pub drains_apart : (policy : Policy) (buf items : List ℕ) (l : Lists) (r : Answer) → Unconnected slot.state → r ≡ refused_with 9
         → Drains n c (lent w b t) (lent w b t) h policy buf buf items items l l r
@@ -219,9 +207,9 @@ module _ {n c : ℕ} {w b t : List ℕ} {u v : ℕ} (a : Admitted n c (lent w b 
       at_hand : Held n c (lent w b t) h (slot_of h) con
       at_hand = held n c (lent w b t) h (slot_of h) con (known a) refl lv.opened (sym (loaded_state w ei es) ∙ ec)
 
-      pub take-asked : ((i < n) × Roomy n c (lent w b t) × (256 ≤ v)) × Well c (part (places_base n i) 256 w) con.inbox
+      pub take_well : Well c (part (places_base n i) 256 w) con.inbox
       unfolding row_at
-      take-asked = (((let y = lv.within in omega arith), (known a).roomy, let y = a.release_list in let z = a.some_slot in omega arith), subst (λ (j : ℕ). Well c (part (places_base n j) 256 w) con.inbox) (sym ei) at_hand.well)
+      take_well = subst (λ (j : ℕ). Well c (part (places_base n j) 256 w) con.inbox) (sym ei) at_hand.well
 
       module _ (g : Bool) (eg : g ≡ open_in n w con.peer.0) (q : ℕ) (eq : q ≡ count con.inbox) (policy : Policy) (buf items : List ℕ) where
         gone : is_open (view n c (lent w b t)) con.peer.0 ≡ g
@@ -299,15 +287,15 @@ module _ {n c : ℕ} {w b t : List ℕ} {u v : ℕ} (a : Admitted n c (lent w b 
         let y = x.drains (Call.Read h (length buf)) (live_run n c (lent w b t) h _ lives) in
         (y.0, record { buffer = y.1.buffer; item_list = no_place (reading (length buf)).items 0 })
 
-    pub recvmsg_empty : (buf items : List ℕ) (l : Lists) (r : Answer) → length buf ≡ 0 → r ≡ refused_with 2
+    pub recvmsg_empty : (buf items : List ℕ) (l : Lists) (r : Answer) (z : Bool) → z ≡ eqb (length buf) 0 → z ≡ true → r ≡ refused_with 2
         → Done (receiving (length buf) (length items)) n c (lent w b t) (lent w b t) l l r × Filled (receiving (length buf) (length items)) buf buf items items
     unfolding run refuse_if
-    recvmsg_empty buf items l r z er =
-        refused_drain n c (lent w b t) l r _ 2 buf items (live_run n c (lent w b t) h _ lives ∙ rw (eq-eqb (length buf) 0 z) refl) (λ y. omega arith) er
+    recvmsg_empty buf items l r z ez empty er =
+        refused_drain n c (lent w b t) l r _ 2 buf items (live_run n c (lent w b t) h _ lives ∙ rw (sym ez ∙ empty) refl) (λ y. omega arith) er
 
-    pub recvmsg_drains : (buf buf' items items' : List ℕ) (l l' : Lists) (r : Answer) (s' : Store) → (length buf ≡ 0 → ⊥)
+    pub recvmsg_drains : (buf buf' items items' : List ℕ) (l l' : Lists) (r : Answer) (s' : Store) (z : Bool) → z ≡ eqb (length buf) 0 → z ≡ false
         → Drains n c (lent w b t) s' h (policy_of Take (length items)) buf buf' items items' l l' r
         → Done (receiving (length buf) (length items)) n c (lent w b t) s' l l' r × Filled (receiving (length buf) (length items)) buf buf' items items'
     unfolding run refuse_if policy_of
-    recvmsg_drains buf buf' items items' l l' r s' z x =
-        x.drains (Call.Recvmsg h (length buf) (length items)) (live_run n c (lent w b t) h _ lives ∙ rw (ne_eqb (length buf) 0 z) refl)
+    recvmsg_drains buf buf' items items' l l' r s' z ez some x =
+        x.drains (Call.Recvmsg h (length buf) (length items)) (live_run n c (lent w b t) h _ lives ∙ rw (sym ez ∙ some) refl)

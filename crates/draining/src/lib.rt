@@ -1,4 +1,5 @@
 // read and recvmsg, on a table that has been admitted.
+// Stays: the lent lists are parameters of their own, since each call writes some and only reads others, as C's pointers say: a struct of all would ask to write every one.
 #![tactic(auto)]
 
 ghost use Rattle.std.specs.Prelude.{◌≡◌, true, [], ◌<◌, length};
@@ -34,11 +35,18 @@ pub fn read_admitted(
     if !handles::is_live(words, n, h) {
         return Err(Errno::EBADF);
     }
-    // nothing is handed over
-    let mut items = [0; 1];
-    let policy = AttachedItems::Drop;
     drain(
-        words, bytes, tokens, wakes, releases, n, c, h, buf, policy, &mut items,
+        words,
+        bytes,
+        tokens,
+        wakes,
+        releases,
+        n,
+        c,
+        h,
+        buf,
+        AttachedItems::Drop,
+        &mut [],
     )
 }
 
@@ -61,17 +69,27 @@ pub fn recvmsg_admitted(
     if !handles::is_live(words, n, h) {
         return Err(Errno::EBADF);
     }
-    if buf.len() == 0 {
+    if buf.is_empty() {
         return Err(Errno::EINVAL);
     }
-    let policy = AttachedItems::Take;
     drain(
-        words, bytes, tokens, wakes, releases, n, c, h, buf, policy, items,
+        words,
+        bytes,
+        tokens,
+        wakes,
+        releases,
+        n,
+        c,
+        h,
+        buf,
+        AttachedItems::Take,
+        items,
     )
 }
 
 // read and recvmsg from the state on: the policy says what becomes of the group at the first queued
 // byte.
+#[tactic(auto, using(promise::proofs::Asked::some_wake))]
 fn drain(
     words: &mut [u64],
     bytes: &[u8],

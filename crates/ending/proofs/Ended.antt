@@ -1,10 +1,10 @@
 -- The parts of close, return by return.
-use mathlib.Core.Path.{◌≡◌, refl, sym, ap, ◌∙◌, subst}
+use mathlib.Core.Path.{◌≡◌, refl, sym, ap, ap₂, ◌∙◌, subst}
 use mathlib.Core.Bool.{Bool, true, false, cond, not}
 use mathlib.Core.List.{List, [], ◌∷◌}
 use Prim.Native.Nat.{ℕ, ◌+◌, ◌*◌, ◌≤◌, ◌<◌}
 use native.Mathlib.Omega.{arith}
-use borrow.Author.Tests.{not-false}
+use borrow.Author.Tests.{not-true, not-false}
 use lib.ListN.{length, get_or, set, take}
 use lib.Seq.{sets, length-sets}
 use Rattle.inbox.specs.Promise.{Discards}
@@ -48,10 +48,10 @@ module _ (n c i g : ℕ) (k : Connection) (w w' t wk rl rl' : List ℕ) (d : Clo
   released_is : d.releases + z.released ≡ d.releases + k.inbox.items
   released_is = ap (λ (y : ℕ). d.releases + y) ds.released_are
 
-  pub ends_woken : o ≡ true → Ends n i g k w w' t wk (set wk d.wakes k.peer.0) rl rl' d (record { wakes = d.wakes + 1; releases = d.releases + z.released })
+  pub ends_woken : not o ≡ false → Ends n i g k w w' t wk (set wk d.wakes k.peer.0) rl rl' d (record { wakes = d.wakes + 1; releases = d.releases + z.released })
   unfolding peer_in
   ends_woken e =
-      let p : peer_in n w k ≡ k.peer.0 ∷ [] = ap (λ (b : Bool). cond b (k.peer.0 ∷ []) []) (sym eo ∙ e) in
+      let p : peer_in n w k ≡ k.peer.0 ∷ [] = ap (λ (b : Bool). cond b (k.peer.0 ∷ []) []) (sym eo ∙ not-false o e) in
       record {
         words = ew;
         wakes = ap (sets wk d.wakes) (sym p);
@@ -60,10 +60,10 @@ module _ (n c i g : ℕ) (k : Connection) (w w' t wk rl rl' : List ℕ) (d : Clo
         release_count = released_is;
       }
 
-  pub ends_silent : o ≡ false → Ends n i g k w w' t wk wk rl rl' d (record { wakes = d.wakes; releases = d.releases + z.released })
+  pub ends_silent : not o ≡ true → Ends n i g k w w' t wk wk rl rl' d (record { wakes = d.wakes; releases = d.releases + z.released })
   unfolding peer_in
   ends_silent e =
-      let p : peer_in n w k ≡ [] = ap (λ (b : Bool). cond b (k.peer.0 ∷ []) []) (sym eo ∙ e) in
+      let p : peer_in n w k ≡ [] = ap (λ (b : Bool). cond b (k.peer.0 ∷ []) []) (sym eo ∙ not-true o e) in
       record {
         words = ew;
         wakes = ap (sets wk d.wakes) (sym p);
@@ -78,8 +78,8 @@ module _ (n c : ℕ) (w : List ℕ) (x i : ℕ) (sv : Serves n c w x) (ei : i �
   state_at : sl.state ≡ state_of (cell_at w (slot_of x))
   state_at = loaded_state w ei es
 
-  pub serves_always : {A : Type 0} → Unconnected sl.state → A
-  serves_always d = absurd (d sv.server (state_at ∙ sv.is_server))
+  pub serves_always : Unconnected sl.state → ⊥
+  serves_always d = d sv.server (state_at ∙ sv.is_server)
 
   module _ (k : Connection) (ek : sl.state ≡ Connected k) where
     is_k : connection_in (state_of (cell_at w (slot_of x))) ≡ k
@@ -119,160 +119,167 @@ module _ (n c : ℕ) (s : Store) (l : Lists) (h : ℕ) (b : Bool) (eb : b ≡ li
   unfolding run
   stale t er = refused_done _ 1 n c s l r (stale_run n c s h b _ eb t) (λ z. omega arith) er
 
-module _ (n c : ℕ) (s : Store) (wk rl : List ℕ) (h : ℕ) (b : Bool) (eb : b ≡ live_in n s.words h) (r : Answer) (kn : Known n c s) (t : not b ≡ false) (i : ℕ) (ei : i ≡ slot_of h) (sl : Slot)
-    (es : sl ≡ loaded_at s.words i) where
+module _ (w : List ℕ) (h i : ℕ) (ei : i ≡ slot_of h) (sl : Slot) (es : sl ≡ loaded_at w i) where
+  pub is_state : (σ : State) → sl.state ≡ σ → state_of (cell_at w (slot_of h)) ≡ σ
+  is_state σ e = sym (loaded_state w ei es) ∙ e
+
+  pub generation_is : sl.generation ≡ (cell_at w (slot_of h)).generation
+  generation_is = loaded_generation w ei es
+
+module _ (n c : ℕ) (s : Store) (h : ℕ) (b : Bool) (eb : b ≡ live_in n s.words h) (kn : Known n c s) (t : not b ≡ false) (i : ℕ) (ei : i ≡ slot_of h) (sl : Slot) (es : sl ≡ loaded_at s.words i) where
   lv : Live n c s h
   lv = live n c s h b eb t
 
-  is_state : (σ : State) → sl.state ≡ σ → state_of (cell_at s.words (slot_of h)) ≡ σ
-  is_state σ e = sym (loaded_state s.words ei es) ∙ e
-
-  generation_is : sl.generation ≡ (cell_at s.words (slot_of h)).generation
-  generation_is = loaded_generation s.words ei es
-
   seen_as : (σ : State) → sl.state ≡ σ → model.state_of (view n c s) h ≡ (show_in (row_at n c s (slot_of h)) (cell_at s.words (slot_of h)).generation σ).state
-  seen_as σ e = state_seen n c s h σ lv.within (is_state σ e)
+  seen_as σ e = state_seen n c s h σ lv.within (is_state s.words h i ei sl es σ e)
 
-  pub closed_never : {l : Lists} → sl.state ≡ Closed → r ≡ refused_with 19 → Done (run (view n c s) (Call.Close h)) n c s s l l r
-  closed_never e er = not_closed n c s h lv (is_state Closed e)
+  module _ (wk rl : List ℕ) (r : Answer) where
+    pub closed_never : sl.state ≡ Closed → r ≡ refused_with 19 → Done (run (view n c s) (Call.Close h)) n c s s (lists wk rl) (lists wk rl) r
+    closed_never e er = not_closed n c s h lv (is_state s.words h i ei sl es Closed e)
 
-  pub unbound_closed : (w' : List ℕ) → sl.state ≡ Unbound → w' ≡ store_at s.words i (cell_of sl.generation Closed) → r ≡ accepted_with 0 0
-      → Done (run (view n c s) (Call.Close h)) n c s (lent w' s.bytes s.tokens) (lists wk rl) (lists wk rl) r
-  unfolding close_wakes kept ending.queued show_in
-  unbound_closed w' e ew er =
-      let st = seen_as Unbound e in
-      let d : Closing = record { wakes = 0; releases = 0 } in
-      all_done n c s kn h 1 0 w' wk wk rl rl d r lv
-      (subst (λ (y : List ℕ). SoFar n c s (h ∷ y) 1 0 w' wk wk rl rl d) (sym (ap ending.queued st))
-      (first_left n c s kn h sl.generation lv.within generation_is w' wk wk rl d (ew ∙ ap (λ (y : ℕ). store_at s.words y (cell_of sl.generation Closed)) ei)
-      (ap (λ (y : model.State). sets wk 0 (close_wakes (view n c s) y)) (sym st)) (ap kept st) (ap (λ (y : model.State). length (close_wakes (view n c s) y)) (sym st)) refl (omega arith)))
-      er
+    pub unbound_closed : (w' : List ℕ) → sl.state ≡ Unbound → w' ≡ store_at s.words i (cell_of sl.generation Closed) → r ≡ accepted_with 0 0
+        → Done (run (view n c s) (Call.Close h)) n c s (lent w' s.bytes s.tokens) (lists wk rl) (lists wk rl) r
+    unfolding close_wakes kept ending.queued show_in
+    unbound_closed w' e ew er =
+        let st = seen_as Unbound e in
+        let d : Closing = record { wakes = 0; releases = 0 } in
+        all_done n c s kn h 1 0 w' wk wk rl rl d r lv
+        (subst (λ (y : List ℕ). SoFar n c s (h ∷ y) 1 0 w' wk wk rl rl d) (sym (ap ending.queued st))
+        (first_left n c s kn h sl.generation lv.within (generation_is s.words h i ei sl es) w' wk wk rl d (ew ∙ ap (λ (y : ℕ). store_at s.words y (cell_of sl.generation Closed)) ei)
+        (ap (λ (y : model.State). sets wk 0 (close_wakes (view n c s) y)) (sym st)) (ap kept st) (ap (λ (y : model.State). length (close_wakes (view n c s) y)) (sym st)) refl (omega arith)))
+        er
 
-  pub bound_closed : (m : ℕ) (w' : List ℕ) → sl.state ≡ Bound m → w' ≡ store_at s.words i (cell_of sl.generation Closed) → r ≡ accepted_with 0 1
-      → Done (run (view n c s) (Call.Close h)) n c s (lent w' s.bytes s.tokens) (lists wk rl) (lists (set wk 0 0) rl) r
-  unfolding close_wakes kept ending.queued show_in
-  bound_closed m w' e ew er =
-      let st = seen_as (Bound m) e in
-      let d : Closing = record { wakes = 1; releases = 0 } in
-      all_done n c s kn h 1 0 w' wk (set wk 0 0) rl rl d r lv
-      (subst (λ (y : List ℕ). SoFar n c s (h ∷ y) 1 0 w' wk (set wk 0 0) rl rl d) (sym (ap ending.queued st))
-      (first_left n c s kn h sl.generation lv.within generation_is w' wk (set wk 0 0) rl d (ew ∙ ap (λ (y : ℕ). store_at s.words y (cell_of sl.generation Closed)) ei)
-      (ap (λ (y : model.State). sets wk 0 (close_wakes (view n c s) y)) (sym st)) (ap kept st) (ap (λ (y : model.State). length (close_wakes (view n c s) y)) (sym st)) refl (omega arith)))
-      er
-
-  pub listener_told : (q : Listener) → sl.state ≡ Listening q → (live_in n s.words h ≡ true) × (state_of (cell_at s.words (slot_of h)) ≡ Listening q) × (sl.generation ≡ (cell_at s.words (slot_of h)).generation)
-  listener_told q e = (sym eb ∙ not-false b t, is_state (Listening q) e, generation_is)
+    pub bound_closed : (m : ℕ) (w' : List ℕ) → sl.state ≡ Bound m → w' ≡ store_at s.words i (cell_of sl.generation Closed) → r ≡ accepted_with 0 1
+        → Done (run (view n c s) (Call.Close h)) n c s (lent w' s.bytes s.tokens) (lists wk rl) (lists (set wk 0 0) rl) r
+    unfolding close_wakes kept ending.queued show_in
+    bound_closed m w' e ew er =
+        let st = seen_as (Bound m) e in
+        let d : Closing = record { wakes = 1; releases = 0 } in
+        all_done n c s kn h 1 0 w' wk (set wk 0 0) rl rl d r lv
+        (subst (λ (y : List ℕ). SoFar n c s (h ∷ y) 1 0 w' wk (set wk 0 0) rl rl d) (sym (ap ending.queued st))
+        (first_left n c s kn h sl.generation lv.within (generation_is s.words h i ei sl es) w' wk (set wk 0 0) rl d (ew ∙ ap (λ (y : ℕ). store_at s.words y (cell_of sl.generation Closed)) ei)
+        (ap (λ (y : model.State). sets wk 0 (close_wakes (view n c s) y)) (sym st)) (ap kept st) (ap (λ (y : model.State). length (close_wakes (view n c s) y)) (sym st)) refl (omega arith)))
+        er
 
   module _ (k : Connection) (ek : sl.state ≡ Connected k) where
     pub socket_fits : Fits c k
     socket_fits =
-        let z = inbox-in kn lv.within (is_state (Connected k) ek) in
+        let z = inbox-in kn lv.within (is_state s.words h i ei sl es (Connected k) ek) in
         record { head_in = z.head_in; bytes_in = z.fits; first_in = z.first_in; items-in = z.items-in }
 
     pub socket_within : i < n
     socket_within = let z = lv.within in omega arith
 
-    pub connected_closed : (w' wk' rl' : List ℕ) (d : Closing) → Ends n i sl.generation k s.words w' s.tokens wk wk' rl rl' (record { wakes = 0; releases = 0 }) d → r ≡ released_with d.wakes d.releases
-        → Done (run (view n c s) (Call.Close h)) n c s (lent w' s.bytes s.tokens) (lists wk rl) (lists wk' rl') r
+    pub connected_closed : (wk rl : List ℕ) (r : Answer) (w' wk' rl' : List ℕ) (none d : Closing) → none.wakes ≡ 0 → none.releases ≡ 0 → Ends n i sl.generation k s.words w' s.tokens wk wk' rl rl' none d
+        → r ≡ released_with d.wakes d.releases → Done (run (view n c s) (Call.Close h)) n c s (lent w' s.bytes s.tokens) (lists wk rl) (lists wk' rl') r
     unfolding ending.queued show_in
-    connected_closed w' wk' rl' d e er =
+    connected_closed wk rl r w' wk' rl' none d ew ef e er =
+        let en : none ≡ record { wakes = 0; releases = 0 } = ap₂ (λ (x : ℕ) (y : ℕ). record { wakes = x; releases = y }) ew ef in
         let st = seen_as (Connected k) ek in
         all_done n c s kn h 1 1 w' wk wk' rl rl' d r lv
         (subst (λ (y : List ℕ). SoFar n c s (h ∷ y) 1 1 w' wk wk' rl rl' d) (sym (ap ending.queued st))
-        (one_more n c s kn [] 0 0 s.words wk wk rl rl (record { wakes = 0; releases = 0 }) (none_yet n c s wk rl) h k sl.generation lv.within (is_state (Connected k) ek) generation_is socket_fits refl w' wk' rl' d
-        (subst (λ (y : ℕ). Ends n y sl.generation k s.words w' s.tokens wk wk' rl rl' (record { wakes = 0; releases = 0 }) d) ei e)))
+        (one_more n c s kn [] 0 0 s.words wk wk rl rl (record { wakes = 0; releases = 0 }) (none_yet n c s wk rl) h k sl.generation lv.within (is_state s.words h i ei sl es (Connected k) ek) (generation_is s.words h i ei sl es) socket_fits refl w' wk' rl' d
+        (subst (λ (y : Closing). Ends n (slot_of h) sl.generation k s.words w' s.tokens wk wk' rl rl' y d) en (subst (λ (y : ℕ). Ends n y sl.generation k s.words w' s.tokens wk wk' rl rl' none d) ei e))))
         er
 
 -- ── The loop of end_listener ──
 
--- the listener q in slot i, with handle h, before it closed
-pub record Begun (n c i : ℕ) (q : Listener) (h : ℕ) (w b t : List ℕ) : Type 0 where
-  pub knows : Known n c (lent w b t)
-  pub lives : Live n c (lent w b t) h
-  pub listens : state_of (cell_at w (slot_of h)) ≡ Listening q
+-- the listener q in slot i, with handle h: before it closed, in w₀, and after, in w₁ and its lists
+pub record Begun (n c i : ℕ) (q : Listener) (h : ℕ) (b t w₀ wk₀ rl₀ w₁ wk₁ rl₁ : List ℕ) (d₁ : Closing) : Type 0 where
+  pub knows : Known n c (lent w₀ b t)
+  pub lives : Live n c (lent w₀ b t) h
+  pub listens : state_of (cell_at w₀ (slot_of h)) ≡ Listening q
   pub slot : i ≡ slot_of h
+  pub left : SoFar n c (lent w₀ b t) (h ∷ []) 1 0 w₁ wk₀ wk₁ rl₀ rl₁ d₁
 
-pub begun : {n c : ℕ} {w b t : List ℕ} {x y : ℕ} → Admitted n c (lent w b t) x y → (i h : ℕ) (q : Listener) → live_in n w h ≡ true → state_of (cell_at w (slot_of h)) ≡ Listening q → i ≡ slot_of h
-    → Begun n c i q h w b t
-begun {n} {c} {w} {b} {t} a i h q l e ei = record { knows = known a; lives = live n c (lent w b t) h true (sym l) refl; listens = e; slot = ei }
+live_true : (n c : ℕ) (w b t : List ℕ) (h : ℕ) → live_in n w h ≡ true → Live n c (lent w b t) h
+live_true n c w b t h l = live n c (lent w b t) h true (sym l) refl
 
--- from when the listener had closed, w₁ and its lists, to when k servers have
+pub begun : {n c : ℕ} {w b t : List ℕ} {x y : ℕ} → Admitted n c (lent w b t) x y → (i h gen : ℕ) (q : Listener) → live_in n w h ≡ true → state_of (cell_at w (slot_of h)) ≡ Listening q → i ≡ slot_of h
+    → gen ≡ (cell_at w (slot_of h)).generation → (w₁ wk rl : List ℕ) → w₁ ≡ store_at w i (cell_of gen Closed) → Begun n c i q h b t w wk rl w₁ (set wk 0 0) rl (record { wakes = 1; releases = 0 })
+begun {n} {c} {w} {b} {t} a i h gen q l e ei eg w₁ wk rl ew =
+    let lv = live_true n c w b t h l in
+    record {
+      knows = known a;
+      lives = lv;
+      listens = e;
+      slot = ei;
+      left = listener_left n c (lent w b t) (known a) h lv q e i gen w₁ wk (set wk 0 0) rl (record { wakes = 1; releases = 0 }) ei eg ew refl refl;
+    }
+
+-- from when the listener had closed to when k servers have
 pub record Going (n c i : ℕ) (q : Listener) (b t w₁ wk₁ rl₁ : List ℕ) (d₁ : Closing) (k : ℕ) (w wk rl : List ℕ) (d : Closing) : Type 0 where
-  pub goes : (h : ℕ) (w₀ wk₀ rl₀ : List ℕ) → Begun n c i q h w₀ b t → SoFar n c (lent w₀ b t) (h ∷ []) 1 0 w₁ wk₀ wk₁ rl₀ rl₁ d₁
+  pub goes : (h : ℕ) (w₀ wk₀ rl₀ : List ℕ) → Begun n c i q h b t w₀ wk₀ rl₀ w₁ wk₁ rl₁ d₁
       → SoFar n c (lent w₀ b t) (h ∷ take k (queued (queue_in n w₀ (slot_of h)) q.head q.pending)) (k + 1) k w wk₀ wk rl₀ rl d
 
 long_as : (l' l xs : List ℕ) → l' ≡ sets l 0 xs → length l' ≡ length l
 long_as l' l xs e = ap length e ∙ length-sets l 0 xs
 
 pub going_first : (n c i : ℕ) (q : Listener) (b t w wk rl : List ℕ) (d : Closing) → Going n c i q b t w wk rl d 0 w wk rl d
-going_first n c i q b t w wk rl d = record { goes = λ h w₀ wk₀ rl₀ g so. so }
+going_first n c i q b t w wk rl d = record { goes = λ h w₀ wk₀ rl₀ g. g.left }
 
-module _ {n c i : ℕ} {q : Listener} {b t w₁ wk₁ rl₁ : List ℕ} {d₁ : Closing} {k : ℕ} {w wk rl : List ℕ} {d : Closing} (go : Going n c i q b t w₁ wk₁ rl₁ d₁ k w wk rl d) (hk : k < q.pending) (p x : ℕ)
-    (ep : p ≡ place_of n (q.head + k)) (ex : x ≡ get_or w (queue_base n i + p) 0) where
-  pub going_on : (w' wk' rl' : List ℕ) (r : Closing) → Ends n (slot_of x) (cell_at w (slot_of x)).generation (connection_in (state_of (cell_at w (slot_of x)))) w w' t wk wk' rl rl' d r
-      → Going n c i q b t w₁ wk₁ rl₁ d₁ (k + 1) w' wk' rl' r
-  going_on w' wk' rl' r e =
-      record {
-        goes = λ h w₀ wk₀ rl₀ g so.
-            next_closed n c (lent w₀ b t) g.knows h g.lives q g.listens k (k + 1) k w wk₀ wk rl₀ rl d (go.goes h w₀ wk₀ rl₀ g so) hk p x ep
-            (ex ∙ ap (λ (y : ℕ). get_or w (queue_base n y + p) 0) g.slot) w' wk' rl' r e;
-      }
+module _ {n c i : ℕ} {q : Listener} {b t w₁ wk₁ rl₁ : List ℕ} {d₁ : Closing} {k : ℕ} {w wk rl : List ℕ} {d : Closing} (go : Going n c i q b t w₁ wk₁ rl₁ d₁ k w wk rl d) where
+  module _ (hk : k < q.pending) (p x : ℕ) (ep : p ≡ place_of n (q.head + k)) (ex : x ≡ get_or w (queue_base n i + p) 0) where
+    pub going_on : (w' wk' rl' : List ℕ) (r : Closing) → Ends n (slot_of x) (cell_at w (slot_of x)).generation (connection_in (state_of (cell_at w (slot_of x)))) w w' t wk wk' rl rl' d r
+        → Going n c i q b t w₁ wk₁ rl₁ d₁ (k + 1) w' wk' rl' r
+    going_on w' wk' rl' r e =
+        record {
+          goes = λ h w₀ wk₀ rl₀ g.
+              next_closed n c (lent w₀ b t) g.knows h g.lives q g.listens k (k + 1) k w wk₀ wk rl₀ rl d (go.goes h w₀ wk₀ rl₀ g) hk p x ep
+              (ex ∙ ap (λ (y : ℕ). get_or w (queue_base n y + p) 0) g.slot) w' wk' rl' r e;
+        }
 
-  module _ (h : ℕ) (w₀ wk₀ rl₀ : List ℕ) (g : Begun n c i q h w₀ b t) (so : SoFar n c (lent w₀ b t) (h ∷ []) 1 0 w₁ wk₀ wk₁ rl₀ rl₁ d₁) where
-    pub serves_next : Serves n c w x
-    serves_next =
-        next_serves n c (lent w₀ b t) g.knows h g.lives q g.listens k (k + 1) k w wk₀ wk rl₀ rl d (go.goes h w₀ wk₀ rl₀ g so) hk p x ep (ex ∙ ap (λ (y : ℕ). get_or w (queue_base n y + p) 0) g.slot)
+    pub serves_next : (h : ℕ) (w₀ wk₀ rl₀ : List ℕ) → Begun n c i q h b t w₀ wk₀ rl₀ w₁ wk₁ rl₁ d₁ → Serves n c w x
+    serves_next h w₀ wk₀ rl₀ g =
+        next_serves n c (lent w₀ b t) g.knows h g.lives q g.listens k (k + 1) k w wk₀ wk rl₀ rl d (go.goes h w₀ wk₀ rl₀ g) hk p x ep (ex ∙ ap (λ (y : ℕ). get_or w (queue_base n y + p) 0) g.slot)
 
-    pub room_next : n + 1 ≤ length wk₀ → 256 * n ≤ length rl₀ → (d.wakes < length wk) × (d.releases + 256 ≤ length rl)
-    room_next lw lr =
-        let f = go.goes h w₀ wk₀ rl₀ g so in
-        let z = (ring_range n c (lent w₀ b t) g.knows h g.lives q g.listens).1 in
+  module _ (h : ℕ) (w₀ wk₀ rl₀ : List ℕ) (g : Begun n c i q h b t w₀ wk₀ rl₀ w₁ wk₁ rl₁ d₁) where
+    abbrev closes : ending.Closing
+    closes = close_all (view n c (lent w₀ b t)) (h ∷ take k (queued (queue_in n w₀ (slot_of h)) q.head q.pending))
+
+    few : q.pending ≤ n
+    few = (ring_range n c (lent w₀ b t) g.knows h g.lives q g.listens).1
+
+    pub wakes_next : k < q.pending → n + 1 ≤ length wk₀ → d.wakes < length wk
+    wakes_next hk lw =
+        let f = go.goes h w₀ wk₀ rl₀ g in
+        let z = few in
         let a = f.wakes_few in
+        let lk : length wk ≡ length wk₀ = long_as wk wk₀ closes.wakes f.wakes_are in
+        omega arith
+
+    pub releases_next : k < q.pending → 256 * n ≤ length rl₀ → d.releases + 256 ≤ length rl
+    releases_next hk lr =
+        let f = go.goes h w₀ wk₀ rl₀ g in
+        let z = few in
         let e = f.releases_few in
-        let lk : length wk ≡ length wk₀ = long_as wk wk₀ (close_all (view n c (lent w₀ b t)) (h ∷ take k (queued (queue_in n w₀ (slot_of h)) q.head q.pending))).wakes f.wakes_are in
-        let lx : length rl ≡ length rl₀ = long_as rl rl₀ (close_all (view n c (lent w₀ b t)) (h ∷ take k (queued (queue_in n w₀ (slot_of h)) q.head q.pending))).releases f.releases_are in
-        (omega arith, omega arith)
+        let lx : length rl ≡ length rl₀ = long_as rl rl₀ closes.releases f.releases_are in
+        omega arith
 
-    pub words_next : (8 + 16 * n ≤ length w) × (256 * n ≤ length t) × (c ≤ 65536)
-    words_next =
-        let f = go.goes h w₀ wk₀ rl₀ g so in
-        let r = g.knows.roomy in
-        let a = r.words in
+    pub rows_next : 8 + 272 * n + n * n ≤ length w
+    rows_next =
+        let f = go.goes h w₀ wk₀ rl₀ g in
+        let a = g.knows.roomy.words in
         let e = f.around.words_long in
-        let y = r.tokens in
-        (omega arith, omega arith, r.small)
+        omega arith
 
-pub going_words : {n c i : ℕ} {q : Listener} {b t w₁ wk₁ rl₁ : List ℕ} {d₁ : Closing} {k : ℕ} {w wk rl : List ℕ} {d : Closing} → Going n c i q b t w₁ wk₁ rl₁ d₁ k w wk rl d
-    → (h : ℕ) (w₀ wk₀ rl₀ : List ℕ) → Begun n c i q h w₀ b t → SoFar n c (lent w₀ b t) (h ∷ []) 1 0 w₁ wk₀ wk₁ rl₀ rl₁ d₁
-    → (length w ≡ length w₀) × (length wk ≡ length wk₀) × (length rl ≡ length rl₀)
-going_words {n} {c} {i} {q} {b} {t} {k = k} {w} {wk} {rl} go h w₀ wk₀ rl₀ g so =
-    let f = go.goes h w₀ wk₀ rl₀ g so in
-    let cl : ending.Closing = close_all (view n c (lent w₀ b t)) (h ∷ take k (queued (queue_in n w₀ (slot_of h)) q.head q.pending)) in
-    (f.around.words_long, long_as wk wk₀ cl.wakes f.wakes_are, long_as rl rl₀ cl.releases f.releases_are)
+    pub slots_next : 8 + 16 * n ≤ length w
+    slots_next = let r = rows_next in omega arith
 
-pub going_done : {n c i : ℕ} {q : Listener} {b t w₁ wk₁ rl₁ : List ℕ} {d₁ : Closing} {k : ℕ} {w wk rl : List ℕ} {d : Closing} → Going n c i q b t w₁ wk₁ rl₁ d₁ k w wk rl d → k ≤ q.pending → q.pending ≤ k
-    → (h : ℕ) (w₀ wk₀ rl₀ : List ℕ) → Begun n c i q h w₀ b t → SoFar n c (lent w₀ b t) (h ∷ []) 1 0 w₁ wk₀ wk₁ rl₀ rl₁ d₁ → (r : Answer) → r ≡ released_with d.wakes d.releases
-    → Done (run (view n c (lent w₀ b t)) (Call.Close h)) n c (lent w₀ b t) (lent w b t) (lists wk₀ rl₀) (lists wk rl) r
-going_done {n} {c} {i} {q} {b} {t} {k = k} {w} {wk} {rl} {d} go h₁ h₂ h w₀ wk₀ rl₀ g so r er =
-    line_done n c (lent w₀ b t) g.knows h g.lives q g.listens k (k + 1) k w wk₀ wk rl₀ rl d (go.goes h w₀ wk₀ rl₀ g so) h₁ h₂ r er
-
--- the listener itself
-pub left_first : {n c i h : ℕ} {q : Listener} {w b t : List ℕ} (g : Begun n c i q h w b t) (gen : ℕ) (w₁ wk rl : List ℕ) → gen ≡ (cell_at w (slot_of h)).generation → w₁ ≡ store_at w i (cell_of gen Closed)
-    → SoFar n c (lent w b t) (h ∷ []) 1 0 w₁ wk (set wk 0 0) rl rl (record { wakes = 1; releases = 0 })
-left_first {n} {c} {i} {h} {q} {w} {b} {t} g gen w₁ wk rl eg ew =
-    listener_left n c (lent w b t) g.knows h g.lives q g.listens i gen w₁ wk (set wk 0 0) rl (record { wakes = 1; releases = 0 }) g.slot eg ew refl refl
+    pub going_done : k ≤ q.pending → q.pending ≤ k → (r : Answer) → r ≡ released_with d.wakes d.releases
+        → Done (run (view n c (lent w₀ b t)) (Call.Close h)) n c (lent w₀ b t) (lent w b t) (lists wk₀ rl₀) (lists wk rl) r
+    going_done h₁ h₂ r er = line_done n c (lent w₀ b t) g.knows h g.lives q g.listens k (k + 1) k w wk₀ wk rl₀ rl d (go.goes h w₀ wk₀ rl₀ g) h₁ h₂ r er
 
 -- what its parts ask
-live_true : (n c : ℕ) (w b t : List ℕ) (h : ℕ) → live_in n w h ≡ true → Live n c (lent w b t) h
-live_true n c w b t h l = live n c (lent w b t) h true (sym l) refl
-
 pub heads : {n c : ℕ} {w b t : List ℕ} {x y : ℕ} → Admitted n c (lent w b t) x y → (h : ℕ) (q : Listener) → live_in n w h ≡ true → state_of (cell_at w (slot_of h)) ≡ Listening q → (q.head < n) × (q.pending ≤ n) × (n ≤ 1024)
 heads {n} {c} {w} {b} {t} a h q l e =
     let z = ring_range n c (lent w b t) (known a) h (live_true n c w b t h l) q e in (z.0, z.1, a.few)
 
-pub entry_room : {n c : ℕ} {w b t : List ℕ} {x y : ℕ} → Admitted n c (lent w b t) x y → (h : ℕ) → live_in n w h ≡ true → (i : ℕ) → i ≡ slot_of h → (w' : List ℕ) → length w' ≡ length w → (p : ℕ) → p < n
-    → (i < n) × (p < n) × (8 + 272 * n + n * n ≤ length w')
-entry_room {n} {c} {w} {b} {t} a h l i ei w' lw p hp = let z = (live_true n c w b t h l).within in let y = a.words in (omega arith, hp, omega arith)
+pub own_within : {n c : ℕ} {w b t : List ℕ} {x y : ℕ} → Admitted n c (lent w b t) x y → (h : ℕ) → live_in n w h ≡ true → (i : ℕ) → i ≡ slot_of h → i < n
+own_within {n} {c} {w} {b} {t} a h l i ei = let z = (live_true n c w b t h l).within in omega arith
 
-pub lists_room : {n c : ℕ} {s : Store} {x y : ℕ} → Admitted n c s x y → (0 < x) × (0 + 256 ≤ y)
-lists_room a = let w = a.wake_list in let r = a.release_list in let o = a.some_slot in (omega arith, omega arith)
+pub wakes_room : {n c : ℕ} {s : Store} {x y : ℕ} → Admitted n c s x y → (z : ℕ) → z ≡ 0 → z < x
+wakes_room a z e = let w = a.wake_list in omega arith
+
+pub releases_room : {n c : ℕ} {s : Store} {x y : ℕ} → Admitted n c s x y → (z : ℕ) → z ≡ 0 → z + 256 ≤ y
+releases_room a z e = let r = a.release_list in let o = a.some_slot in omega arith

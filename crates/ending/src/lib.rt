@@ -1,8 +1,10 @@
 // close, on a table that has been admitted.
+// Stays: the lent lists are parameters of their own, since each call writes some and only reads others, as C's pointers say: a struct of all would ask to write every one.
 #![tactic(auto)]
 
 ghost use Rattle.std.specs.Prelude.{◌≡◌, true, ◌+◌, ◌*◌, ◌≤◌, ◌<◌, length};
 ghost use Rattle.rules.specs.Outcome.{Call};
+ghost use Rattle.storage.specs.Layout.{HasSlot, HasSlots};
 ghost use Rattle.storage.specs.Rows.{lent};
 ghost use Rattle.table.specs.Admission.{Admitted};
 ghost use Rattle.promise.specs.Answers.{told};
@@ -17,60 +19,67 @@ use promise::Accepted;
 use storage::{Connection, Listener, Slot, State, handles, inboxes, queues};
 use words::{Errno, Handle};
 
+// The registry, in the wake list.
+const REGISTRY: u64 = 0;
+
 // How far the wake list and the release list are filled.
-#[derive(Clone, Copy)]
+#[derive(Clone, Copy, Default)]
 struct Closing {
     wakes: usize,
     releases: usize,
 }
 
+// The socket in slot `i` leaves it.
 fn leave(words: &mut [u64], i: usize, generation: u64)
-    requires { 8 + 16 * i + 16 ≤ length words.old }
+    requires { HasSlot i words.old }
     ensures { words.new ≡ store_at words.old i (cell_of generation Closed) }
 {
-    storage::store(
-        words,
-        i,
-        Slot {
-            generation,
-            state: State::Closed,
-        },
-    );
+    let state = State::Closed;
+    storage::store(words, i, Slot { generation, state });
 }
 
-// The connected socket in slot `i` closes: its items are released, its open peer is woken.
-fn end(
-    words: &mut [u64],
-    tokens: &[u32],
-    wakes: &mut [u64],
-    releases: &mut [u32],
-    n: usize,
-    c: usize,
+// A connected socket, in slot `i`.
+#[derive(Clone, Copy)]
+struct Socket {
     i: usize,
     generation: u64,
     connection: Connection,
-    done: Closing,
-) -> Closing
-    requires roomy { (i < n) × (8 + 16 * n ≤ length words.old) × (256 * n ≤ length tokens.now) × (c ≤ 65536) }
-    requires fits { Fits c connection }
-    requires lists_room { (done.wakes < length wakes.old) × (done.releases + 256 ≤ length releases.old) }
-    ensures { Ends n i generation connection words.old words.new tokens.now wakes.old wakes.new releases.old releases.new done result }
-{
-    let peer_open = handles::is_open(words, n, connection.peer);
-    let discarded = inboxes::discard(tokens, c, i, connection.inbox, releases, done.releases);
-    let done = Closing {
-        releases: done.releases + discarded.released,
-        ..done
-    };
-    leave(words, i, generation);
-    if peer_open {
-        wakes[done.wakes] = connection.peer.0;
-        return Closing {
-            wakes: done.wakes + 1,
+}
+
+impl Socket {
+    // It closes: its items are released, its open peer is woken.
+    fn end(
+        self,
+        words: &mut [u64],
+        tokens: &[u32],
+        wakes: &mut [u64],
+        releases: &mut [u32],
+        n: usize,
+        c: usize,
+        done: Closing,
+    ) -> Closing
+        requires roomy { (self.i < n) × HasSlots n words.old × (256 * n ≤ length tokens.now) × (c ≤ 65536) }
+        requires fits { Fits c self.connection }
+        requires lists_room { (done.wakes < length wakes.old) × (done.releases + 256 ≤ length releases.old) }
+        ensures { Ends n self.i self.generation self.connection words.old words.new tokens.now wakes.old wakes.new releases.old releases.new done result }
+    {
+        let Connection { peer, inbox, .. } = self.connection;
+        let peer_open = handles::is_open(words, n, peer);
+        let discarded = inboxes::discard(tokens, c, self.i, inbox, releases, done.releases);
+        let done = Closing {
+            releases: done.releases + discarded.released,
             ..done
         };
+        leave(words, self.i, self.generation);
+        if !peer_open {
+            return done;
+        }
+        wakes[done.wakes] = peer.0;
+        Closing {
+            wakes: done.wakes + 1,
+            ..done
+        }
     }
-    done
 }
 
 // A pending server closes.
@@ -85,31 +94,26 @@ fn end_server(
     done: Closing,
 ) -> Closing
     requires serves { Serves n c words.old server.0 }
-    requires roomy { (8 + 16 * n ≤ length words.old) × (256 * n ≤ length tokens.now) × (c ≤ 65536) }
+    requires roomy { HasSlots n words.old × (256 * n ≤ length tokens.now) × (c ≤ 65536) }
     requires lists_room { (done.wakes < length wakes.old) × (done.releases + 256 ≤ length releases.old) }
     ensures { Ends n (slot_of server.0) (cell_at words.old (slot_of server.0)).generation (connection_in (state_of (cell_at words.old (slot_of server.0)))) words.old words.new tokens.now wakes.old wakes.new releases.old releases.new done result }
 {
     let i = handles::slot_of(server);
-    let slot = storage::load(words, i);
+    let Slot { generation, state } = storage::load(words, i);
     // a pending server is connected
-    let State::Connected(connection) = slot.state else {
+    let State::Connected(connection) = state else {
         return done;
     };
-    end(
-        words,
-        tokens,
-        wakes,
-        releases,
-        n,
-        c,
+    let socket = Socket {
         i,
-        slot.generation,
+        generation,
         connection,
-        done,
-    )
+    };
+    socket.end(words, tokens, wakes, releases, n, c, done)
 }
 
 // A listener closes, and then each pending server, oldest first.
+#[tactic(auto, using(promise::proofs::Asked::some_wake))]
 fn end_listener(
     words: &mut [u64],
     bytes: &[u8],
@@ -129,7 +133,7 @@ fn end_listener(
 {
     let i = handles::slot_of(h);
     leave(words, i, generation);
-    wakes[0] = 0;
+    wakes[0] = REGISTRY;
     let mut done = Closing {
         wakes: 1,
         releases: 0,
@@ -158,9 +162,8 @@ pub fn close_admitted(
         return Err(Errno::EBADF);
     }
     let i = handles::slot_of(h);
-    let slot = storage::load(words, i);
-    let generation = slot.generation;
-    match slot.state {
+    let Slot { generation, state } = storage::load(words, i);
+    match state {
         // no live socket is closed
         State::Closed => Err(Errno::DAMAGED),
         State::Unbound => {
@@ -169,20 +172,19 @@ pub fn close_admitted(
         }
         State::Bound(_) => {
             leave(words, i, generation);
-            wakes[0] = 0;
+            wakes[0] = REGISTRY;
             Ok(Accepted::new(0, 1))
         }
         State::Listening(listener) => end_listener(
             words, bytes, tokens, wakes, releases, n, c, h, generation, listener,
         ),
         State::Connected(connection) => {
-            let none = Closing {
-                wakes: 0,
-                releases: 0,
+            let socket = Socket {
+                i,
+                generation,
+                connection,
             };
-            let done = end(
-                words, tokens, wakes, releases, n, c, i, generation, connection, none,
-            );
+            let done = socket.end(words, tokens, wakes, releases, n, c, Closing::default());
             Ok(Accepted::releasing(done.wakes, done.releases))
         }
     }

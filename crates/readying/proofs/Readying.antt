@@ -1,12 +1,13 @@
 -- readiness
 use mathlib.Core.Path.{◌≡◌, refl, sym, ap, ◌∙◌}
+use mathlib.Core.Logic.{◌⊎◌, inl, inr}
 use mathlib.Core.Bool.{Bool, true, false, cond, not, ◌&&◌, ◌||◌}
-use mathlib.Core.List.{List, []}
-use Prim.Native.Nat.{ℕ, ◌+◌, ◌*◌, ◌^◌, ◌≤◌, ◌<◌}
+use mathlib.Core.List.{[]}
+use Prim.Native.Nat.{ℕ, ◌+◌, ◌<◌}
 use native.Mathlib.Omega.{arith}
 use lib.Dec.{ltb, eqb}
 use lib.ListN.{length}
-use borrow.Author.Tests.{not-true, not-false, eq-eqb, ne_eqb}
+use borrow.Author.Tests.{eq-eqb, ne_eqb}
 use Rattle.ring.specs.Ring.{queued}
 use Rattle.inbox.specs.View as inbox
 use Rattle.inbox.specs.View.{count}
@@ -28,7 +29,6 @@ use Rattle.storage.specs.declared.State.TheVariants.{Closed, Unbound, Bound, Lis
 use Rattle.storage.specs.declared.Listener.{Listener}
 use Rattle.storage.specs.declared.Connection.{Connection}
 use Rattle.storage.proofs.Coding.{loaded_state, loaded_at}
-use Rattle.storage.proofs.Finds.{open_slot}
 use Rattle.storage.proofs.Viewed.{open_view}
 use Rattle.table.proofs.Links.{queue-length}
 use Rattle.promise.specs.Answers.{refused_with, accepted_with}
@@ -39,70 +39,6 @@ use Rattle.promise.proofs.Changed.{unchanged}
 use Rattle.promise.proofs.Held.{ring_long, inbox-in}
 use Rattle.promise.proofs.Live.{Live, live, opened, not_closed, state_seen, stale_run, live_run}
 use Rattle.readying.specs.Parts.{readable_of, room_in, writable_in, ready_in}
-
--- ── The parts ──
-
-module _ (k : Connection) (q : ℕ) (eq : q ≡ count k.inbox) where
-  pub some_bytes : (q ≡ 0 → ⊥) → 1 ≡ readable_of k
-  unfolding readable_of
-  some_bytes ne = rw (ne_eqb (count k.inbox) 0 (λ z. ne (eq ∙ z)))
-
-  pub shut_inbox : q ≡ 0 → k.inbox_closed ≡ true → 1 ≡ readable_of k
-  unfolding readable_of
-  shut_inbox z e = rw (eq-eqb (count k.inbox) 0 (sym eq ∙ z), e)
-
-  pub no_bytes : q ≡ 0 → k.inbox_closed ≡ false → 0 ≡ readable_of k
-  unfolding readable_of
-  no_bytes z e = rw (eq-eqb (count k.inbox) 0 (sym eq ∙ z), e)
-
-  pub room_is : (c : ℕ) (σ : State) → σ ≡ Connected k → ltb q c ≡ room_in c σ
-  room_is c σ e = rw (e, eq)
-
-module _ (c : ℕ) (w : List ℕ) (j : ℕ) (k : Connection) where
-  pub shut_outbox : k.outbox_closed ≡ true → 0 ≡ writable_in c w j k
-  unfolding writable_in
-  shut_outbox e = rw e
-
-  module _ (s : Slot) (b : Bool) (e : k.outbox_closed ≡ false) (es : s ≡ loaded_at w j) (eb : b ≡ room_in c s.state) where
-    room_at : room_in c (state_of (cell_at w j)) ≡ b
-    room_at = sym (eb ∙ ap (λ (x : Slot). room_in c x.state) es)
-
-    pub some_room : b ≡ true → 2 ≡ writable_in c w j k
-    unfolding writable_in
-    some_room t = rw (e, room_at ∙ t)
-
-    pub no_room : b ≡ false → 0 ≡ writable_in c w j k
-    unfolding writable_in
-    no_room t = rw (e, room_at ∙ t)
-
-module _ (n c : ℕ) (w : List ℕ) (k : Connection) (r : Bool) (er : r ≡ open_in n w k.peer.0) where
-  pub peer_gone : not r ≡ true → 5 ≡ ready_in n c w k
-  unfolding ready_in
-  peer_gone t = rw (sym er ∙ not-true r t)
-
-  pub peer_in : not r ≡ false → 8 + 16 * n ≤ length w → (j : ℕ) → j ≡ slot_of k.peer.0 → 8 + 16 * j + 16 ≤ length w
-  peer_in t l j ej = let z = open_slot n w k.peer.0 (sym er ∙ not-false r t) in omega arith
-
-  pub both_ends : not r ≡ false → (j a b : ℕ) → j ≡ slot_of k.peer.0 → a ≡ readable_of k → b ≡ writable_in c w j k → a + b ≡ ready_in n c w k
-  unfolding ready_in
-  both_ends t j a b ej ea eb = rw (sym er ∙ not-false r t, ea, eb, ej)
-
-bit_one : (b : Bool) → ◌≤◌ (cond b 1 0) 1
-bit_one true = omega arith
-bit_one false = omega arith
-
-bit_two : (b : Bool) → ◌≤◌ (cond b 2 0) 2
-bit_two true = omega arith
-bit_two false = omega arith
-
-pub sum_fits : (c : ℕ) (w : List ℕ) (j : ℕ) (k : Connection) (a b : ℕ) → a ≡ readable_of k → b ≡ writable_in c w j k → a + b < 2 ^ 64
-unfolding readable_of writable_in
-sum_fits c w j k a b ea eb =
-    let x = bit_one (not (eqb (count k.inbox) 0) || k.inbox_closed) in
-    let y = bit_two (not k.outbox_closed && room_in c (state_of (cell_at w j))) in
-    omega arith
-
--- ── The answer ──
 
 -- the length of what is queued
 pub bytes_long : (n c : ℕ) (s : Store) (i : ℕ) (k : Connection) → Known n c s → i < n → state_of (cell_at s.words i) ≡ Connected k → length (inbox.bytes_of (row_at n c s i).ring k.inbox) ≡ count k.inbox
@@ -144,13 +80,17 @@ module _ (n c : ℕ) (s : Store) (l : Lists) (h : ℕ) (b : Bool) (eb : b ≡ li
     pub closed_never : sl.state ≡ Closed → r ≡ refused_with 19 → Done (run (view n c s) (Call.Readiness h)) n c s s l l r
     closed_never e er = not_closed n c s h lv (is_state Closed e)
 
-    pub of_unbound : sl.state ≡ Unbound → r ≡ accepted_with 0 0 → Done (run (view n c s) (Call.Readiness h)) n c s s l l r
+    of_unbound : sl.state ≡ Unbound → r ≡ accepted_with 0 0 → Done (run (view n c s) (Call.Readiness h)) n c s s l l r
     unfolding ending.ready show_in
     of_unbound e er = with_value 0 (ap (ending.ready (view n c s)) (state_is Unbound e)) er
 
-    pub of_bound : (m : ℕ) → sl.state ≡ Bound m → r ≡ accepted_with 0 0 → Done (run (view n c s) (Call.Readiness h)) n c s s l l r
+    of_bound : (m : ℕ) → sl.state ≡ Bound m → r ≡ accepted_with 0 0 → Done (run (view n c s) (Call.Readiness h)) n c s s l l r
     unfolding ending.ready show_in
     of_bound m e er = with_value 0 (ap (ending.ready (view n c s)) (state_is (Bound m) e)) er
+
+    pub of_nothing : (sl.state ≡ Unbound) ⊎ ((m : ℕ) × (sl.state ≡ Bound m)) → r ≡ accepted_with 0 0 → Done (run (view n c s) (Call.Readiness h)) n c s s l l r
+    of_nothing (inl e) er = of_unbound e er
+    of_nothing (inr x) er = of_bound x.0 x.1 er
 
     module _ (q : Listener) (e : sl.state ≡ Listening q) where
       nil_is : is_nil (queued (row_at n c s (slot_of h)).queue q.head q.pending) ≡ eqb q.pending 0

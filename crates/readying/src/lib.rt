@@ -1,8 +1,10 @@
 // readiness, on a table that has been admitted.
+// Stays: the lent lists are parameters of their own, as in the calls that write some and only read others, as C's pointers say: a struct of all would ask to write every one.
 #![tactic(auto)]
 
-ghost use Rattle.std.specs.Prelude.{◌≡◌, ◌+◌, ◌*◌, ◌≤◌, length};
+ghost use Rattle.std.specs.Prelude.{◌≡◌, length};
 ghost use Rattle.rules.specs.Outcome.{Call};
+ghost use Rattle.storage.specs.Layout.{HasSlot, HasSlots};
 ghost use Rattle.storage.specs.Rows.{lent};
 ghost use Rattle.table.specs.Admission.{Admitted};
 ghost use Rattle.promise.specs.Answers.{told};
@@ -13,15 +15,23 @@ use promise::Accepted;
 use storage::{Connection, State, handles};
 use words::{Errno, Handle};
 
+// What a socket is ready for, as C has it.
+const READABLE: u64 = 1;
+
+const WRITABLE: u64 = 2;
+
+const HUNG_UP: u64 = 4;
+
 // "readable if bytes are queued or the inbox is closed"
 #[tactic(auto, unfolding(crate::specs::Parts::readable_of))]
 fn readable(connection: Connection) -> u64
     ensures { result ≡ readable_of connection }
 {
-    if connection.inbox.queued() != 0 {
-        return 1;
+    if connection.inbox.queued() != 0 || connection.inbox_closed {
+        READABLE
+    } else {
+        0
     }
-    connection.inbox_closed as u64
 }
 
 #[tactic(auto, unfolding(crate::specs::Parts::room_in))]
@@ -32,26 +42,25 @@ fn has_room(state: State, c: usize) -> bool
 }
 
 // "writable if the outbox is open and the peer inbox has room": the peer is in slot `j`
+#[tactic(auto, unfolding(crate::specs::Parts::writable_in))]
 fn writable(words: &[u64], c: usize, j: usize, connection: Connection) -> u64
-    requires { 8 + 16 * j + 16 ≤ length words.now }
+    requires { HasSlot j words.now }
     ensures { result ≡ writable_in c words.now j connection }
 {
-    if connection.outbox_closed {
-        return 0;
-    }
-    if has_room(storage::load(words, j).state, c) {
-        2
+    if !connection.outbox_closed && has_room(storage::load(words, j).state, c) {
+        WRITABLE
     } else {
         0
     }
 }
 
+#[tactic(auto, using(storage::proofs::Finds::open_slot), unfolding(crate::specs::Parts::ready_in, crate::specs::Parts::readable_of, crate::specs::Parts::writable_in))]
 fn ready(words: &[u64], n: usize, c: usize, connection: Connection) -> u64
-    requires { 8 + 16 * n ≤ length words.now }
+    requires { HasSlots n words.now }
     ensures { result ≡ ready_in n c words.now connection }
 {
     if !handles::is_open(words, n, connection.peer) {
-        return 5;
+        return READABLE | HUNG_UP;
     }
     let j = handles::slot_of(connection.peer);
     readable(connection) + writable(words, c, j, connection)
@@ -77,14 +86,9 @@ pub fn readiness_admitted(
     match slot.state {
         // no live socket is closed
         State::Closed => Err(Errno::DAMAGED),
-        State::Unbound => Ok(Accepted::new(0, 0)),
-        State::Bound(_) => Ok(Accepted::new(0, 0)),
-        State::Listening(listener) => {
-            if listener.pending == 0 {
-                return Ok(Accepted::new(0, 0));
-            }
-            Ok(Accepted::new(1, 0))
-        }
+        State::Unbound | State::Bound(_) => Ok(Accepted::new(0, 0)),
+        State::Listening(listener) if listener.pending == 0 => Ok(Accepted::new(0, 0)),
+        State::Listening(_) => Ok(Accepted::new(READABLE, 0)),
         State::Connected(connection) => Ok(Accepted::new(ready(words, n, c, connection), 0)),
     }
 }

@@ -19,7 +19,6 @@ use Rattle.abi.specs.Shutdown.{how_of}
 use Rattle.abi.specs.declared.ShutdownHow.{ShutdownHow}
 use Rattle.inbox.specs.View as inbox
 use Rattle.inbox.specs.View.{count}
-use Rattle.inbox.specs.Promise.{Discards}
 use Rattle.inbox.specs.declared.Inbox.{Inbox}
 use Rattle.inbox.specs.declared.Discarded.{Discarded}
 use Rattle.rules.specs.Table as model
@@ -40,7 +39,7 @@ use Rattle.storage.specs.declared.Slot.{Slot}
 use Rattle.storage.specs.declared.State.{State}
 use Rattle.storage.specs.declared.State.TheVariants.{Closed, Unbound, Bound, Listening, Connected}
 use Rattle.storage.specs.declared.Connection.{Connection}
-use Rattle.storage.proofs.Coding.{connected_inj, loaded_generation, loaded_state, loaded_at}
+use Rattle.storage.proofs.Coding.{loaded_state, loaded_at}
 use Rattle.storage.proofs.Framing.{store_rows}
 use Rattle.storage.proofs.Around.{store_around, around_then, roomy_around}
 use Rattle.storage.proofs.Viewed.{open_view, put_view}
@@ -55,24 +54,20 @@ use Rattle.promise.proofs.Changed.{Fit, fit_same, row_stored, rows_kept, release
 use Rattle.promise.proofs.Called.{Unconnected, unconnected}
 use Rattle.promise.proofs.Held.{ring_long, places_long, tokens_long, Held, held, placed_same, connected_fit, connected_keeps, connected_put}
 use Rattle.promise.proofs.Live.{Live, live, opened, live_run, stale_run, state_seen}
-use Rattle.shutting.specs.Parts.{reads_of, writes_of, ended_with, left_of, dropped_of, Drops, Ends, Follows, Shuts}
+use Rattle.shutting.specs.declared.Ends.{Ends}
+use Rattle.shutting.specs.Parts.{reads_of, writes_of, ended_with, left_of, dropped_of, Drops, Follows, Shuts}
 use Rattle.shutting.proofs.Ended.{left_range, left_shows, dropped_all, dropped_long, left_hidden, stays_hidden}
 
 -- ── The parts ──
 
-module _ (c : ℕ) (tokens rl : List ℕ) (q : Inbox) where
-  pub nothing_dropped : (rd : Bool) → not rd ≡ true → Drops c tokens rl rl rd q (record { released = 0; inbox = q })
-  unfolding left_of dropped_of
-  nothing_dropped true e = absurd (false≢true e)
-  nothing_dropped false e = record { inbox_is = refl; releases_it = refl; released_are = refl }
+-- the own socket k in slot i, of generation g: m items are released
+record OwnEnds (c i g : ℕ) (k : Connection) (rd wr : Bool) (w w' tokens releases releases' : List ℕ) (m : ℕ) : Type 0 where
+  words : w' ≡ store_at w i (cell_of g (Connected (ended_with k (left_of c rd k.inbox) rd wr)))
+  releases_it : releases' ≡ sets releases 0 (dropped_of rd (part (tokens_base i) 256 tokens) k.inbox)
+  released_are : m ≡ cond rd k.inbox.items 0
 
-  pub all_dropped : (rd : Bool) (rl' : List ℕ) (r : Discarded) → not rd ≡ false → Discards c tokens rl rl' 0 q r → Drops c tokens rl rl' rd q r
-  unfolding left_of dropped_of
-  all_dropped true rl' r e d = record { inbox_is = d.numbers; releases_it = d.releases_it; released_are = d.released_are }
-  all_dropped false rl' r e d = absurd (true≢false e)
-
-pub own_ended : (c i g : ℕ) (k : Connection) (rd wr : Bool) (w w' t rl rl' : List ℕ) (d : Discarded) → Drops c (part (tokens_base i) 256 t) rl rl' rd k.inbox d
-    → w' ≡ store_at w i (cell_of g (Connected (ended_with k d.inbox rd wr))) → Ends c i g k rd wr w w' t rl rl' d.released
+own_ended : (c i g : ℕ) (k : Connection) (rd wr : Bool) (w w' t rl rl' : List ℕ) (d : Discarded) → Drops c (part (tokens_base i) 256 t) rl rl' rd k.inbox d
+    → w' ≡ store_at w i (cell_of g (Connected (ended_with k d.inbox rd wr))) → OwnEnds c i g k rd wr w w' t rl rl' d.released
 own_ended c i g k rd wr w w' t rl rl' d x e =
     record {
       words = e ∙ ap (λ (q : Inbox). store_at w i (cell_of g (Connected (ended_with k q rd wr)))) x.inbox_is;
@@ -154,12 +149,12 @@ module _ (n c : ℕ) (w b t : List ℕ) (kn : Known n c (lent w b t)) (h i : ℕ
   unfolding row_at
   items_are = dropped_all row.places row.tokens k.inbox lp lt hd.range.first_in hd.range.items-in rd
 
-  module _ (w₁ rl rl' : List ℕ) (m : ℕ) (en : Ends c i (cell_at w i).generation k rd wr w w₁ t rl rl' m) where
+  module _ (w₁ rl rl' : List ℕ) (m : ℕ) (en : OwnEnds c i (cell_at w i).generation k rd wr w w₁ t rl rl' m) where
     released_is : m ≡ length (cond rd (all_items old.groups) [])
     unfolding row_at
     released_is = en.released_are ∙ dropped_long row.places row.tokens k.inbox lp lt hd.range.first_in hd.range.items-in rd ∙ ap length items_are
 
-    pub shut_alone : (wk : List ℕ) (r : Answer) → is_open (view n c (lent w b t)) k.peer.0 ≡ false → r ≡ released_with 1 m
+    shut_alone : (wk : List ℕ) (r : Answer) → is_open (view n c (lent w b t)) k.peer.0 ≡ false → r ≡ released_with 1 m
         → Shuts n c (lent w b t) (lent w₁ b t) h rd wr (lists wk rl) (lists (set wk 0 h) rl') r
     shut_alone wk r o er =
         record {
@@ -244,7 +239,7 @@ module _ (n c : ℕ) (w b t : List ℕ) (kn : Known n c (lent w b t)) (h i : ℕ
           (ap (λ (z : ℕ). (at t₁ z).state) (sym hp.is_slot) ∙ ap (λ (x : model.Slot). x.state) peer_shown)
           ∙ connected_put (row_at n c s j) row₂ (cell_at w j).generation k₂ k₃ peer_says refl refl t₁ k.peer.0 j hp.is_slot peer_shown
 
-      pub shut_both : (w₂ wk : List ℕ) (r : Answer) → w₂ ≡ store_at w₁ j cell₂ → r ≡ released_with 2 m
+      shut_both : (w₂ wk : List ℕ) (r : Answer) → w₂ ≡ store_at w₁ j cell₂ → r ≡ released_with 2 m
           → Shuts n c (lent w b t) (lent w₂ b t) h rd wr (lists wk rl) (lists (set (set wk 0 h) 1 k.peer.0) rl') r
       shut_both w₂ wk r ew er =
           record {
@@ -259,27 +254,6 @@ module _ (n c : ℕ) (w b t : List ℕ) (kn : Known n c (lent w b t)) (h i : ℕ
                 (rows_kept n c s s₂ call kn around₂ shown fit (each Keeps keep₁ keep₂ (λ z hz. keeps_same (row_at n c s z)))))
                 refl (en.releases_it ∙ ap (sets rl 0) items_are) refl released_is er;
           }
-
--- ── As the code has it ──
-
--- ── end_peer ──
-
-module _ (p : ℕ) (rd wr : Bool) (w : List ℕ) (j : ℕ) (ej : j ≡ slot_of p) where
-  pub follow_in : 8 + 16 * slot_of p + 16 ≤ length w → 8 + 16 * j + 16 ≤ length w
-  follow_in h = omega arith
-
-  module _ (slot : Slot) (es : slot ≡ loaded_at w j) where
-    pub follows_not : Unconnected slot.state → Follows p rd wr w w
-    follows_not u = record { words = λ k e. absurd (u k (loaded_state w ej es ∙ e)) }
-
-    pub follows : (k : Connection) → slot.state ≡ Connected k → (w' : List ℕ) → w' ≡ store_at w j (cell_of slot.generation (Connected (ended_with k k.inbox wr rd))) → Follows p rd wr w w'
-    follows k ek w' ew =
-        record {
-          words = λ k₂ e.
-              let same : k ≡ k₂ = connected_inj (sym ek ∙ loaded_state w ej es ∙ e) in
-              ew ∙ ap₂ (λ (x : ℕ) (q : Connection). store_at w x (cell_of slot.generation (Connected (ended_with q q.inbox wr rd)))) ej same
-              ∙ ap (λ (g : ℕ). store_at w (slot_of p) (cell_of g (Connected (ended_with k₂ k₂.inbox wr rd)))) (loaded_generation w ej es);
-        }
 
 -- ── shut ──
 
@@ -319,24 +293,27 @@ module _ {n c : ℕ} {w b t : List ℕ} {u v : ℕ} (a : Admitted n c (lent w b 
           at_hand : Held n c (lent w b t) h i k
           at_hand = held n c (lent w b t) h i k (known a) ei lv.opened (sym (ap (λ (q : Slot). q.state) es) ∙ ek)
 
-          pub end_asked : ((8 + 16 * i + 16 ≤ length w) × (256 * i + 256 ≤ length t) × (c ≤ 65536) × (256 ≤ v)) × ((k.inbox.head < c) × (count k.inbox ≤ c) × (k.inbox.first < 256) × (k.inbox.items ≤ 256))
-          end_asked =
+          pub drop_asked : ((256 * i + 256 ≤ length t) × (c ≤ 65536) × (256 ≤ v)) × ((k.inbox.head < c) × (count k.inbox ≤ c) × (k.inbox.first < 256) × (k.inbox.items ≤ 256))
+          drop_asked =
               let z = at_hand.within in
               let x = a.tokens in
               let y = a.release_list in
               let g = at_hand.range in
-              ((slot_in a i z, omega arith, a.small, omega arith), (g.head_in, g.fits, g.first_in, g.items-in))
+              ((omega arith, a.small, omega arith), (g.head_in, g.fits, g.first_in, g.items-in))
 
           module _ (f : Bool) (ef : f ≡ open_in n w k.peer.0) where
             gone : is_open (view n c (lent w b t)) k.peer.0 ≡ f
             gone = sym (open_view n c (lent w b t) k.peer.0) ∙ sym ef
 
-            module _ (rd wr : Bool) (w₁ rl rl' : List ℕ) (m : ℕ) (en : Ends c i slot.generation k rd wr w w₁ t rl rl' m) where
-              ended : Ends c i (cell_at w i).generation k rd wr w w₁ t rl rl' m
-              ended = subst (λ (g : ℕ). Ends c i g k rd wr w w₁ t rl rl' m) (ap (λ (q : Slot). q.generation) es) en
+            module _ (rd wr : Bool) (w₁ rl rl' : List ℕ) (left : Discarded) (dr : Drops c (part (tokens_base i) 256 t) rl rl' rd k.inbox left) (own_end : Connection) (eo : own_end ≡ ended_with k left.inbox rd wr)
+                (ew : w₁ ≡ store_at w i (cell_of slot.generation (Connected own_end))) where
+              ended : OwnEnds c i (cell_at w i).generation k rd wr w w₁ t rl rl' left.released
+              ended =
+                  own_ended c i (cell_at w i).generation k rd wr w w₁ t rl rl' left dr
+                  (ew ∙ ap₂ (λ (g : ℕ) (q : Connection). store_at w i (cell_of g (Connected q))) (ap (λ (q : Slot). q.generation) es) eo)
 
-              pub shuts_alone : (wk : List ℕ) (r : Answer) → not f ≡ true → r ≡ released_with 1 m → Shuts n c (lent w b t) (lent w₁ b t) h rd wr (lists wk rl) (lists (set wk 0 h) rl') r
-              shuts_alone wk r z er = shut_alone n c w b t (known a) h i k at_hand rd wr w₁ rl rl' m ended wk r (gone ∙ not-true f z) er
+              pub shuts_alone : (wk : List ℕ) (r : Answer) → not f ≡ true → r ≡ released_with 1 left.released → Shuts n c (lent w b t) (lent w₁ b t) h rd wr (lists wk rl) (lists (set wk 0 h) rl') r
+              shuts_alone wk r z er = shut_alone n c w b t (known a) h i k at_hand rd wr w₁ rl rl' left.released ended wk r (gone ∙ not-true f z) er
 
               module _ (z : not f ≡ false) where
                 peer_open : is_open (view n c (lent w b t)) k.peer.0 ≡ true
@@ -376,12 +353,12 @@ module _ {n c : ℕ} {w b t : List ℕ} {u v : ℕ} (a : Admitted n c (lent w b 
                     let y = ap length ended.words ∙ (store_around n c w b t (known a).roomy i at_hand.within cell).words_long in
                     omega arith
 
-                pub shuts_both : (w₂ wk : List ℕ) (r : Answer) → Follows k.peer.0 rd wr w₁ w₂ → r ≡ released_with 2 m
+                pub shuts_both : (w₂ wk : List ℕ) (r : Answer) → Follows k.peer.0 rd wr w₁ w₂ → r ≡ released_with 2 left.released
                     → Shuts n c (lent w b t) (lent w₂ b t) h rd wr (lists wk rl) (lists (set (set wk 0 h) 1 k.peer.0) rl') r
                 shuts_both w₂ wk r fo er =
                     let j = slot_of k.peer.0 in
                     let k₂ = peer_is.0 in
-                    shut_both n c w b t (known a) h i k at_hand rd wr w₁ rl rl' m ended j k₂ (held n c (lent w b t) k.peer.0 j k₂ (known a) refl peer_open peer_is.1) slots_differ w₂ wk r
+                    shut_both n c w b t (known a) h i k at_hand rd wr w₁ rl rl' left.released ended j k₂ (held n c (lent w b t) k.peer.0 j k₂ (known a) refl peer_open peer_is.1) slots_differ w₂ wk r
                     (fo.words k₂ (ap state_of same_cell ∙ peer_is.1) ∙ ap (λ (x : Cell). store_at w₁ j (cell_of x.generation (Connected (ended_with k₂ k₂.inbox wr rd)))) same_cell) er
 
 -- ── shutdown ──
@@ -448,9 +425,10 @@ module _ (n c : ℕ) (s : Store) (h : ℕ) (how : ℤ) (f : Bool) (ef : f ≡ li
         refused_done _ 2 n c s l r (live_run n c s h _ lives ∙ rw p.0 refl) (λ z. omega arith) (er ∙ ap refused_with p.1)
 
     module _ (m : ShutdownHow) (em : x ≡ Ok m) where
-      pub shutdown_shuts : (rd wr : Bool) → rd ≡ reads_of m → wr ≡ writes_of m → (s' : Store) (l l' : Lists) (r : Answer) → Shuts n c s s' h rd wr l l' r → Done out n c s s' l l' r
+      pub shutdown_shuts : (ends : Ends) → ends ≡ record { inbox = reads_of m; outbox = writes_of m } → (s' : Store) (l l' : Lists) (r : Answer) → Shuts n c s s' h ends.inbox ends.outbox l l' r
+          → Done out n c s s' l l' r
       unfolding run refuse_if shuts_read shuts_write
-      shutdown_shuts rd wr er ew s' l l' r y =
+      shutdown_shuts ends ee s' l l' r y =
           let p = one_of (equals how 0) (equals how 1) (equals how 2) m (λ e. (only how 0 1 (λ z. omega arith) e, only how 0 2 (λ z. omega arith) e)) (only how 1 2 (λ z. omega arith)) (asked (Ok m) em) in
           y.shuts (Call.Shutdown h how)
-          (live_run n c s h _ lives ∙ rw (p.0, p.1, p.2, sym er, sym ew) refl)
+          (live_run n c s h _ lives ∙ rw (p.0, p.1, p.2, sym (ap (λ (x : Ends). x.inbox) ee), sym (ap (λ (x : Ends). x.outbox) ee)) refl)

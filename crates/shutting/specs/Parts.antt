@@ -11,7 +11,6 @@ use Rattle.rules.specs.Table.{slot_of}
 use Rattle.rules.specs.Outcome.{Call}
 use Rattle.rules.specs.Ending.{do_shutdown}
 use Rattle.rules.specs.Run.{run}
-use Rattle.storage.specs.Layout.{part, tokens_base}
 use Rattle.storage.specs.Cells.{cell_at, state_of, store_at, cell_of}
 use Rattle.storage.specs.Rows.{Store}
 use Rattle.storage.specs.View.{view}
@@ -48,12 +47,6 @@ pub record Drops (c : ℕ) (tokens releases releases' : List ℕ) (rd : Bool) (q
   pub inbox_is : r.inbox ≡ left_of c rd q
   pub releases_it : releases' ≡ sets releases 0 (dropped_of rd tokens q)
   pub released_are : r.released ≡ cond rd q.items 0
-
--- the own socket k in slot i, of generation g: m items are released
-pub record Ends (c i g : ℕ) (k : Connection) (rd wr : Bool) (w w' tokens releases releases' : List ℕ) (m : ℕ) : Type 0 where
-  pub words : w' ≡ store_at w i (cell_of g (Connected (ended_with k (left_of c rd k.inbox) rd wr)))
-  pub releases_it : releases' ≡ sets releases 0 (dropped_of rd (part (tokens_base i) 256 tokens) k.inbox)
-  pub released_are : m ≡ cond rd k.inbox.items 0
 
 -- the peer p, where it is connected: its inbox stays
 pub record Follows (p : ℕ) (rd wr : Bool) (w w' : List ℕ) : Type 0 where

@@ -1,19 +1,18 @@
 // shutdown, on a table that has been admitted.
+// Stays: the lent lists are parameters of their own, since each call writes some and only reads others, as C's pointers say: a struct of all would ask to write every one.
 #![tactic(auto)]
 
-ghost use Rattle.std.specs.Prelude.{◌≡◌, true, ◌||◌, ◌+◌, ◌*◌, ◌≤◌, ◌<◌, length};
+ghost use Rattle.std.specs.Prelude.{◌≡◌, true, ◌+◌, ◌*◌, ◌≤◌, ◌<◌, length};
 ghost use Rattle.inbox.specs.View.{count};
 ghost use Rattle.rules.specs.Outcome.{Call};
 ghost use Rattle.rules.specs.Table.{slot_of};
-ghost use Rattle.storage.specs.Layout.{part, tokens_base};
-ghost use Rattle.storage.specs.Cells.{store_at, cell_of};
+ghost use Rattle.storage.specs.Layout.{part, tokens_base, HasSlot};
 ghost use Rattle.storage.specs.Rows.{lent};
 ghost use Rattle.storage.specs.Finding.{live_in};
-ghost use Rattle.storage.specs.declared.State.TheVariants.{Connected};
 ghost use Rattle.table.specs.Admission.{Admitted};
 ghost use Rattle.promise.specs.Answers.{told};
 ghost use Rattle.promise.specs.Promise.{lists, Runs};
-ghost use Rattle.shutting.specs.Parts.{reads_of, writes_of, ended_with, Drops, Ends, Follows, Shuts};
+ghost use Rattle.shutting.specs.Parts.{ended_with, Drops, Follows, Shuts};
 
 use abi::ShutdownHow;
 use inbox::{Discarded, Inbox};
@@ -38,25 +37,57 @@ pub fn shutdown_admitted(
     if !handles::is_live(words, n, h) {
         return Err(Errno::EBADF);
     }
-    let ends = ShutdownHow::try_from(how)?;
-    let read = reads(ends);
-    let write = writes(ends);
-    shut(words, bytes, tokens, wakes, releases, n, c, h, read, write)
+    let ends = Ends::from(ShutdownHow::try_from(how)?);
+    shut(words, bytes, tokens, wakes, releases, n, c, h, ends)
 }
 
-fn reads(how: ShutdownHow) -> bool
-    ensures { result ≡ reads_of how }
-{
-    matches!(how, ShutdownHow::Read | ShutdownHow::Both)
+// Which ends of a socket close.
+#[derive(Clone, Copy)]
+struct Ends {
+    inbox: bool,
+    outbox: bool,
 }
 
-fn writes(how: ShutdownHow) -> bool
-    ensures { result ≡ writes_of how }
-{
-    matches!(how, ShutdownHow::Write | ShutdownHow::Both)
+impl From<ShutdownHow> for Ends {
+    ghost use Rattle.std.specs.Prelude.{◌≡◌};
+    ghost use Rattle.shutting.specs.Parts.{reads_of, writes_of};
+
+    ghost from_gives = { λ how ends. ends ≡ record { inbox = reads_of how; outbox = writes_of how } };
+
+    fn from(how: ShutdownHow) -> Ends {
+        Ends {
+            inbox: matches!(how, ShutdownHow::Read | ShutdownHow::Both),
+            outbox: matches!(how, ShutdownHow::Write | ShutdownHow::Both),
+        }
+    }
+}
+
+impl Ends {
+    // Which ends of its peer then close.
+    fn of_peer(self) -> Ends
+        ensures { result ≡ record { inbox = self.outbox; outbox = self.inbox } }
+    {
+        Ends {
+            inbox: self.outbox,
+            outbox: self.inbox,
+        }
+    }
+
+    // The connection with these ends closed, and with this inbox.
+    fn close(self, connection: Connection, inbox: Inbox) -> Connection
+        ensures { result ≡ ended_with connection inbox self.inbox self.outbox }
+    {
+        Connection {
+            inbox,
+            inbox_closed: connection.inbox_closed || self.inbox,
+            outbox_closed: connection.outbox_closed || self.outbox,
+            ..connection
+        }
+    }
 }
 
 // shutdown from the state on.
+#[tactic(auto, using(crate::proofs::Shutting::two_wakes))]
 fn shut(
     words: &mut [u64],
     bytes: &[u8],
@@ -66,12 +97,12 @@ fn shut(
     n: usize,
     c: usize,
     h: Handle,
-    read: bool,
-    write: bool,
+    ends: Ends,
 ) -> Result<Accepted, Errno>
     requires admitted { Admitted n c (lent words.old bytes.now tokens.now) (length wakes.old) (length releases.old) }
     requires live { live_in n words.old h.0 ≡ true }
-    ensures { Shuts n c (lent words.old bytes.now tokens.now) (lent words.new bytes.now tokens.now) h.0 read write (lists wakes.old releases.old) (lists wakes.new releases.new) (told result) }
+    ensures { Shuts n c (lent words.old bytes.now tokens.now) (lent words.new bytes.now tokens.now) h.0 ends.inbox ends.outbox
+        (lists wakes.old releases.old) (lists wakes.new releases.new) (told result) }
 {
     let i = handles::slot_of(h);
     let slot = storage::load(words, i);
@@ -79,61 +110,34 @@ fn shut(
         return Err(Errno::ENOTCONN);
     };
     let peer_open = handles::is_open(words, n, connection.peer);
-    let released = end_own(
-        words,
-        tokens,
-        releases,
-        c,
-        i,
-        slot.generation,
-        connection,
-        read,
-        write,
-    );
+    let left = drop_queued(tokens, c, i, connection.inbox, releases, ends.inbox);
+    let state = State::Connected(ends.close(connection, left.inbox));
+    storage::store(words, i, Slot { state, ..slot });
     wakes[0] = h.0;
     if !peer_open {
-        return Ok(Accepted::releasing(1, released));
+        return Ok(Accepted::releasing(1, left.released));
     }
-    end_peer(words, connection.peer, read, write);
+    end_peer(words, connection.peer, ends);
     wakes[1] = connection.peer.0;
-    Ok(Accepted::releasing(2, released))
-}
-
-// The own socket, in slot `i`: how many items were released.
-fn end_own(
-    words: &mut [u64],
-    tokens: &[u32],
-    releases: &mut [u32],
-    c: usize,
-    i: usize,
-    generation: u64,
-    connection: Connection,
-    read: bool,
-    write: bool,
-) -> usize
-    requires roomy { (8 + 16 * i + 16 ≤ length words.old) × (256 * i + 256 ≤ length tokens.now) × (c ≤ 65536) × (256 ≤ length releases.old) }
-    requires inbox_in { (connection.inbox.head < c) × (count connection.inbox ≤ c) × (connection.inbox.first < 256) × (connection.inbox.items ≤ 256) }
-    ensures { Ends c i generation connection read write words.old words.new tokens.now releases.old releases.new result }
-{
-    let left = drop_queued(tokens, c, i, connection.inbox, releases, read);
-    close_ends(words, i, generation, connection, left.inbox, read, write);
-    left.released
+    Ok(Accepted::releasing(2, left.released))
 }
 
 // The open peer `p` closes the other end. No admitted table has one that is not connected.
-fn end_peer(words: &mut [u64], p: Handle, read: bool, write: bool)
-    requires { 8 + 16 * slot_of p.0 + 16 ≤ length words.old }
-    ensures { Follows p.0 read write words.old words.new }
+fn end_peer(words: &mut [u64], p: Handle, ends: Ends)
+    requires { HasSlot (slot_of p.0) words.old }
+    ensures { Follows p.0 ends.inbox ends.outbox words.old words.new }
 {
     let j = handles::slot_of(p);
     let slot = storage::load(words, j);
     let State::Connected(peer) = slot.state else {
         return;
     };
-    close_ends(words, j, slot.generation, peer, peer.inbox, write, read);
+    let state = State::Connected(ends.of_peer().close(peer, peer.inbox));
+    storage::store(words, j, Slot { state, ..slot });
 }
 
 // "Read drops inbox bytes, releases its items"
+#[tactic(auto, unfolding(crate::specs::Parts::left_of, crate::specs::Parts::dropped_of))]
 fn drop_queued(
     tokens: &[u32],
     c: usize,
@@ -150,26 +154,4 @@ fn drop_queued(
         return Discarded { released: 0, inbox };
     }
     inboxes::discard(tokens, c, i, inbox, releases, 0)
-}
-
-// A connection with this inbox and with ends that close, into slot `i`.
-fn close_ends(
-    words: &mut [u64],
-    i: usize,
-    generation: u64,
-    connection: Connection,
-    inbox: Inbox,
-    inbox_closes: bool,
-    outbox_closes: bool,
-)
-    requires { 8 + 16 * i + 16 ≤ length words.old }
-    ensures { words.new ≡ store_at words.old i (cell_of generation (Connected (ended_with connection inbox inbox_closes outbox_closes))) }
-{
-    let state = State::Connected(Connection {
-        inbox,
-        inbox_closed: connection.inbox_closed | inbox_closes,
-        outbox_closed: connection.outbox_closed | outbox_closes,
-        ..connection
-    });
-    storage::store(words, i, Slot { generation, state });
 }

@@ -1,6 +1,5 @@
 use mathlib.Core.Path.{refl}
 use Rattle.promise.specs.Promise.{lists}
-use Rattle.promise.proofs.Asked.{live_asked}
 use Rattle.draining.proofs.Draining.{read_stale, read_drains}
 use mathlib.Core.Path.{ap}
 use mathlib.Core.Bool.{not}
@@ -13,14 +12,6 @@ returns-then-not-is_live c =
     let f = c.is_live in
     let m = read_stale pre a.h.0 f.result f.ensures a.buf.now (lists a.wakes.now a.releases.now) _ (ap not c.if-not-is_live.true) refl in
     record { runs = m.0; fills = m.1 }
-
-pub drain-requires : goal.drain-requires
-drain-requires c =
-    let a = c.args in
-    let pre = c.requires in
-    let f = c.is_live in
-    let m = live_asked pre a.h.0 f.result f.ensures (ap not c.if-not-is_live.false) in
-    record { admitted = m.0; live = m.1 }
 
 pub returns : goal.returns
 returns c =

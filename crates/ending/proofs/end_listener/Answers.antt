@@ -1,16 +1,13 @@
 use native.Mathlib.Omega.{arith}
 use Rattle.promise.proofs.Asked.{own_in}
-use Rattle.ending.proofs.Ended.{begun, left_first, going_first, going_on, going_words, going_done, serves_next, words_next, room_next, heads, entry_room}
+use Rattle.ending.proofs.Ended.{begun, going_first, going_on, going_done, serves_next, slots_next, rows_next, wakes_next, releases_next, heads, own_within}
 use Rattle.ending.proofs.end_listener.Goals as goal
 
 pub leave-requires : goal.leave-requires
-leave-requires c = let p = c.requires in own_in p.admitted c.args.h.0 p.live c.slot_of-i.result c.slot_of-i.ensures
-
-pub bounds-wakes-0 : goal.bounds-wakes-0
-bounds-wakes-0 c = let p = c.requires in let z = p.admitted.wake_list in omega arith
+leave-requires c = search own_in
 
 pub loop-k-init : goal.loop-k-init
-loop-k-init c = going_first _ _ _ _ _ _ _ _ _ _
+loop-k-init c = search going_first
 
 pub overflow_add-listener : goal.overflow_add-listener
 overflow_add-listener c = let p = c.requires in let z = heads p.admitted c.args.h.0 c.args.listener p.live p.listens.0 in let l = c.loop-k in omega (arith, z.0, z.1, z.2, c.loop-k.auto.k-end)
@@ -23,37 +20,19 @@ entry-server-requires c =
     let a = c.args in
     let p = c.requires in
     let i = c.slot_of-i in
-    let b = begun p.admitted i.result a.h.0 a.listener p.live p.listens.0 i.ensures in
-    let f = left_first b a.generation _ a.wakes.now a.releases.now p.listens.1 c.leave.ensures in
-    let l = c.loop-k in
-    let z = going_words l.invariant a.h.0 a.words.now a.wakes.now a.releases.now b f in
-    entry_room p.admitted a.h.0 p.live i.result i.ensures l.words z.0 c.place.result c.place.ensures.1
+    let g = begun p.admitted i.result a.h.0 a.generation a.listener p.live p.listens.0 i.ensures p.listens.1 _ a.wakes.now a.releases.now c.leave.ensures in
+    search (own_within, rows_next)
 
 pub end_server-done-requires : goal.end_server-done-requires
 end_server-done-requires c =
     let a = c.args in
     let p = c.requires in
     let i = c.slot_of-i in
-    let b = begun p.admitted i.result a.h.0 a.listener p.live p.listens.0 i.ensures in
-    let f = left_first b a.generation _ a.wakes.now a.releases.now p.listens.1 c.leave.ensures in
-    let l = c.loop-k in
-    let pl = c.place in
-    let x = c.entry-server in record { serves = serves_next l.invariant c.loop-k-test.true pl.result x.result.0 pl.ensures.0 x.ensures a.h.0 a.words.now a.wakes.now a.releases.now b f; roomy = words_next l.invariant c.loop-k-test.true pl.result x.result.0 pl.ensures.0 x.ensures a.h.0 a.words.now a.wakes.now a.releases.now b f; lists_room = room_next l.invariant c.loop-k-test.true pl.result x.result.0 pl.ensures.0 x.ensures a.h.0 a.words.now a.wakes.now a.releases.now b f p.admitted.wake_list p.admitted.release_list }
+    let g = begun p.admitted i.result a.h.0 a.generation a.listener p.live p.listens.0 i.ensures p.listens.1 _ a.wakes.now a.releases.now c.leave.ensures in
+    search (serves_next, slots_next, wakes_next, releases_next)
 
 pub loop-k-preserved : goal.loop-k-preserved
-loop-k-preserved c =
-    let l = c.loop-k in
-    let pl = c.place in
-    let x = c.entry-server in
-    let e = c.end_server-done in
-    going_on l.invariant c.loop-k-test.true pl.result x.result.0 pl.ensures.0 x.ensures _ _ _ e.result e.ensures
+loop-k-preserved c = search going_on
 
 pub returns : goal.returns
-returns c =
-    let a = c.args in
-    let p = c.requires in
-    let i = c.slot_of-i in
-    let b = begun p.admitted i.result a.h.0 a.listener p.live p.listens.0 i.ensures in
-    let f = left_first b a.generation _ a.wakes.now a.releases.now p.listens.1 c.leave.ensures in
-    let l = c.loop-k in
-    going_done l.invariant c.loop-k.auto.k-end c.loop-k-test.false a.h.0 a.words.now a.wakes.now a.releases.now b f _ c.releasing.ensures
+returns c = search (going_done, begun)

@@ -1,4 +1,4 @@
-use Rattle.readying.proofs.Readying.{stale, closed_never, of_unbound, of_bound, of_empty, of_waiting, of_connected}
+use Rattle.readying.proofs.Readying.{stale, closed_never, of_nothing, of_empty, of_waiting, of_connected}
 use Rattle.promise.proofs.Known.{known}
 use Rattle.promise.proofs.Asked.{live-in}
 use Rattle.readying.proofs.readiness_admitted.Goals as goal
@@ -9,20 +9,17 @@ returns-then-not-is_live c = search stale
 pub load-slot-requires : goal.load-slot-requires
 load-slot-requires c = search live-in
 
-pub returns-then-listener-eq0 : goal.returns-then-listener-eq0
-returns-then-listener-eq0 c = search (of_empty, known)
-
 pub returns-in-Closed : goal.returns-in-Closed
 returns-in-Closed c = search (closed_never, known)
 
 pub returns-in-Unbound : goal.returns-in-Unbound
-returns-in-Unbound c = search (of_unbound, known)
+returns-in-Unbound c = search (of_nothing, known)
 
-pub returns-in-Bound : goal.returns-in-Bound
-returns-in-Bound c = search (of_bound, known)
+pub returns-in-Listening : goal.returns-in-Listening
+returns-in-Listening c = search (of_empty, known)
 
-pub returns-else-listener-eq0 : goal.returns-else-listener-eq0
-returns-else-listener-eq0 c = search (of_waiting, known)
+pub returns-in-Listening-2 : goal.returns-in-Listening-2
+returns-in-Listening-2 c = search (of_waiting, known)
 
 pub returns-in-Connected : goal.returns-in-Connected
 returns-in-Connected c = search (of_connected, known)
