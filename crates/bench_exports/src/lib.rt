@@ -3,8 +3,9 @@
 // fit are refused with 18, an inbox that is not well with 19.
 #![tactic(auto)]
 
-ghost use Rattle.std.specs.Prelude.{◌≡◌, ◌≤◌, length};
+ghost use Rattle.std.specs.Prelude.{◌≡◌, ◌≤◌, length, IfOk, OnOk};
 ghost use Rattle.std.proofs.lemmas.List.Edits.{sets};
+ghost use Rattle.inbox.specs.Well.{Well};
 ghost use Rattle.bench_exports.specs.Checking.{check_no};
 ghost use Rattle.bench_exports.specs.Numbers.{numbers_in, listed};
 
@@ -12,7 +13,7 @@ use inbox::{AttachedItems, Inbox};
 use words::Errno;
 
 #[repr(C)]
-#[derive(Clone, Copy)]
+#[derive(Clone, Copy, Default)]
 pub struct BenchAnswer {
     pub refusal: u32,
     pub flags: u32,
@@ -20,15 +21,6 @@ pub struct BenchAnswer {
     pub items: u64,
     pub released: u64,
 }
-
-// Nothing was moved or handed over.
-const NOTHING: BenchAnswer = BenchAnswer {
-    refusal: 0,
-    flags: 0,
-    moved: 0,
-    items: 0,
-    released: 0,
-};
 
 #[unsafe(no_mangle)]
 pub extern "C" fn bench_push(
@@ -39,13 +31,10 @@ pub extern "C" fn bench_push(
     buf: &[u8],
     items: &[u32],
 ) -> BenchAnswer {
-    if numbers.len() < 5 || 65536 < ring.len() || places.len() != 256 || tokens.len() != 256 {
-        return refused(Errno::SHORT);
-    }
-    let inbox = load(numbers);
-    if !inbox.is_well(places, ring.len()) {
-        return refused(Errno::DAMAGED);
-    }
+    let inbox = match load(numbers, ring, places, tokens) {
+        Ok(inbox) => inbox,
+        Err(no) => return refused(no),
+    };
     if let Err(no) = inbox.push_refusal(ring.len(), buf.len(), items.len()) {
         return refused(no);
     }
@@ -53,7 +42,7 @@ pub extern "C" fn bench_push(
     store(numbers, pushed.inbox);
     BenchAnswer {
         moved: pushed.moved as u64,
-        ..NOTHING
+        ..BenchAnswer::default()
     }
 }
 
@@ -68,25 +57,19 @@ pub extern "C" fn bench_take(
     items: &mut [u32],
     releases: &mut [u32],
 ) -> BenchAnswer {
-    if numbers.len() < 5 || 65536 < ring.len() || places.len() != 256 || tokens.len() != 256 {
-        return refused(Errno::SHORT);
-    }
     if releases.len() < 256 {
         return refused(Errno::SHORT);
     }
-    let inbox = load(numbers);
-    if !inbox.is_well(places, ring.len()) {
-        return refused(Errno::DAMAGED);
-    }
-    let taken = inbox.take(
-        ring,
-        places,
-        tokens,
-        buf,
-        policy(hand_over),
-        items,
-        releases,
-    );
+    let inbox = match load(numbers, ring, places, tokens) {
+        Ok(inbox) => inbox,
+        Err(no) => return refused(no),
+    };
+    let policy = if hand_over {
+        AttachedItems::Take
+    } else {
+        AttachedItems::Drop
+    };
+    let taken = inbox.take(ring, places, tokens, buf, policy, items, releases);
     store(numbers, taken.inbox);
     BenchAnswer {
         refusal: 0,
@@ -99,6 +82,7 @@ pub extern "C" fn bench_take(
 
 // The check of a whole table that every call makes, by itself: 0, or the number that a call answers.
 #[unsafe(no_mangle)]
+#[tactic(auto, unfolding(crate::specs::Checking::check_no, rules::specs::Run::admission, table::specs::OnePass::checks), using(table::proofs::Facts::ranged))]
 pub extern "C" fn bench_check(words: &[u64], bytes: &[u8], n: usize, c: usize) -> u32
     ensures { result ≡ check_no n c words.now bytes.now }
 {
@@ -106,10 +90,7 @@ pub extern "C" fn bench_check(words: &[u64], bytes: &[u8], n: usize, c: usize) -
         return Errno::EINVAL.number();
     }
     let least = storage::least_sizes(n, c);
-    if words.len() < least.words {
-        return Errno::SHORT.number();
-    }
-    if bytes.len() < least.bytes {
+    if words.len() < least.words || bytes.len() < least.bytes {
         return Errno::SHORT.number();
     }
     if !table::well_formed(words, bytes, n, c) {
@@ -118,32 +99,34 @@ pub extern "C" fn bench_check(words: &[u64], bytes: &[u8], n: usize, c: usize) -
     0
 }
 
-fn policy(hand_over: bool) -> AttachedItems {
-    if hand_over {
-        AttachedItems::Take
-    } else {
-        AttachedItems::Drop
-    }
-}
-
 fn refused(no: Errno) -> BenchAnswer {
     BenchAnswer {
         refusal: no.number(),
-        ..NOTHING
+        ..BenchAnswer::default()
     }
 }
 
-fn load(numbers: &[u64]) -> Inbox
-    requires { 5 ≤ length numbers.now }
-    ensures { result ≡ numbers_in numbers.now }
+// The inbox of the five numbers, where it is well and all lists have their sizes.
+#[tactic(auto, using(inbox::proofs::Kept::well))]
+fn load(numbers: &[u64], ring: &[u8], places: &[u64], tokens: &[u32]) -> Result<Inbox, Errno>
+    ensures inbox { IfOk result (λ inbox. inbox ≡ numbers_in numbers.now) }
+    ensures well { IfOk result (Well (length ring.now) places.now) }
+    ensures sizes { OnOk result ((5 ≤ length numbers.now) × (length ring.now ≤ 65536) × (length places.now ≡ 256) × (length tokens.now ≡ 256)) }
 {
-    Inbox {
+    if numbers.len() < 5 || 65536 < ring.len() || places.len() != 256 || tokens.len() != 256 {
+        return Err(Errno::SHORT);
+    }
+    let inbox = Inbox {
         head: numbers[0] as usize,
         written_total: numbers[1],
         read_total: numbers[2],
         first: numbers[3] as usize,
         items: numbers[4] as usize,
+    };
+    if !inbox.is_well(places, ring.len()) {
+        return Err(Errno::DAMAGED);
     }
+    Ok(inbox)
 }
 
 fn store(numbers: &mut [u64], inbox: Inbox)
