@@ -5,6 +5,7 @@
 
 ghost use Rattle.std.specs.Prelude.{◌≡◌, ◌≤◌, length, IfOk, OnOk};
 ghost use Rattle.std.proofs.lemmas.List.Edits.{sets};
+ghost use Rattle.words.specs.Numbers.{refusal_of};
 ghost use Rattle.inbox.specs.Well.{Well};
 ghost use Rattle.bench_exports.specs.Checking.{check_no};
 ghost use Rattle.bench_exports.specs.Numbers.{numbers_in, listed};
@@ -82,21 +83,27 @@ pub extern "C" fn bench_take(
 
 // The check of a whole table that every call makes, by itself: 0, or the number that a call answers.
 #[unsafe(no_mangle)]
-#[tactic(auto, unfolding(crate::specs::Checking::check_no, rules::specs::Run::admission, table::specs::OnePass::checks), using(table::proofs::Facts::ranged))]
 pub extern "C" fn bench_check(words: &[u64], bytes: &[u8], n: usize, c: usize) -> u32
     ensures { result ≡ check_no n c words.now bytes.now }
 {
+    words::refusal(checked(words, bytes, n, c))
+}
+
+#[tactic(auto, unfolding(crate::specs::Checking::check_no, rules::specs::Run::admission, table::specs::OnePass::checks), using(table::proofs::Facts::ranged))]
+fn checked(words: &[u64], bytes: &[u8], n: usize, c: usize) -> Result<(), Errno>
+    ensures { refusal_of result ≡ check_no n c words.now bytes.now }
+{
     if !table::sizes::in_range(n, c) {
-        return Errno::EINVAL.number();
+        return Err(Errno::EINVAL);
     }
     let least = storage::least_sizes(n, c);
     if words.len() < least.words || bytes.len() < least.bytes {
-        return Errno::SHORT.number();
+        return Err(Errno::SHORT);
     }
     if !table::well_formed(words, bytes, n, c) {
-        return Errno::DAMAGED.number();
+        return Err(Errno::DAMAGED);
     }
-    0
+    Ok(())
 }
 
 fn refused(no: Errno) -> BenchAnswer {
