@@ -28,6 +28,7 @@ impl TryFrom<i32> for ShutdownHow {
 
     ghost try_from_gives = { λ value result. result ≡ how_of value };
 
+    #[tactic(auto, unfolding(crate::specs::Shutdown::how_of), using(words::proofs::Integers::equals_yes, words::proofs::Integers::equals_no))]
     fn try_from(value: i32) -> Result<ShutdownHow, Errno>
         ensures { result ≡ how_of value }
     {
@@ -64,6 +65,7 @@ pub struct MsgHdr {
 impl MsgHdr {
     pub const BYTES: usize = 56;
 
+    #[tactic(auto, unfolding(crate::specs::Header::message_of))]
     pub fn read(hdr: &[u8]) -> Result<MsgHdr, Errno>
         ensures { result ≡ message_of hdr.now }
     {
@@ -79,13 +81,11 @@ impl MsgHdr {
     }
 
     // Unix stream sockets carry no name, so a name gives EINVAL.
+    #[tactic(auto, unfolding(crate::specs::Header::iovec_count_of))]
     pub fn iovec_count(self) -> Result<u64, Errno>
         ensures { result ≡ iovec_count_of self }
     {
-        if self.msg_name != 0 {
-            return Err(Errno::EINVAL);
-        }
-        if self.msg_namelen != 0 {
+        if self.msg_name != 0 || self.msg_namelen != 0 {
             return Err(Errno::EINVAL);
         }
         if self.msg_iovlen > MAX_IOVEC {
@@ -94,6 +94,7 @@ impl MsgHdr {
         Ok(self.msg_iovlen)
     }
 
+    #[tactic(auto, unfolding(crate::specs::Header::control_len_of))]
     pub fn control_len(self) -> Result<u64, Errno>
         ensures { result ≡ control_len_of self }
     {
@@ -119,53 +120,49 @@ impl CmsgHdr {
     pub const ALIGN: u64 = 8;
 
     // `CMSG_ALIGN(len)`: rounds `len` up to a multiple of 8.
+    #[tactic(auto, unfolding(crate::specs::Size::align_of, crate::specs::Size::exact), using(crate::proofs::Sizes::up8_is))]
     pub fn align(len: u64) -> Result<u64, Errno>
         ensures { result ≡ align_of len }
     {
-        if len <= u64::MAX - 7 {
-            Ok((len + 7) / CmsgHdr::ALIGN * CmsgHdr::ALIGN)
-        } else {
-            Err(Errno::EINVAL)
-        }
+        len.checked_next_multiple_of(CmsgHdr::ALIGN)
+            .ok_or(Errno::EINVAL)
     }
 
     // `CMSG_LEN(data_len)`: header plus data, no trailing padding.
+    #[tactic(auto, unfolding(crate::specs::Size::len_of, crate::specs::Size::exact))]
     pub fn len(data_len: u64) -> Result<u64, Errno>
         ensures { result ≡ len_of data_len }
     {
-        if data_len <= u64::MAX - CmsgHdr::BYTES {
-            Ok(CmsgHdr::BYTES + data_len)
-        } else {
-            Err(Errno::EINVAL)
-        }
+        CmsgHdr::BYTES.checked_add(data_len).ok_or(Errno::EINVAL)
     }
 
     // `CMSG_SPACE(data_len)`: header plus padded data.
+    #[tactic(auto, unfolding(crate::specs::Size::space_of, crate::specs::Size::align_of, crate::specs::Size::len_of, crate::specs::Size::exact))]
     pub fn space(data_len: u64) -> Result<u64, Errno>
         ensures { result ≡ space_of data_len }
     {
-        let padded = CmsgHdr::align(data_len)?;
-        CmsgHdr::len(padded)
+        CmsgHdr::len(CmsgHdr::align(data_len)?)
     }
 
+    #[tactic(auto, unfolding(crate::specs::Size::rights_space_of, crate::specs::Size::space_of, crate::specs::Size::exact), using(crate::proofs::Sizes::up8_is))]
     pub fn scm_rights_space(fd_count: u64) -> Result<u64, Errno>
         ensures { result ≡ rights_space_of fd_count }
     {
-        if fd_count <= u64::MAX / CmsgHdr::FD_BYTES {
-            return CmsgHdr::space(CmsgHdr::FD_BYTES * fd_count);
-        }
-        Err(Errno::EINVAL)
+        let data_len = CmsgHdr::FD_BYTES
+            .checked_mul(fd_count)
+            .ok_or(Errno::EINVAL)?;
+        CmsgHdr::space(data_len)
     }
 
+    #[tactic(auto, unfolding(crate::specs::Size::rights_of, crate::specs::Size::len_of, crate::specs::Size::exact))]
     pub fn scm_rights(fd_count: u64) -> Result<CmsgHdr, Errno>
         ensures { result ≡ rights_of fd_count }
     {
-        if fd_count > u64::MAX / CmsgHdr::FD_BYTES {
-            return Err(Errno::EINVAL);
-        }
-        let cmsg_len = CmsgHdr::len(CmsgHdr::FD_BYTES * fd_count)?;
+        let data_len = CmsgHdr::FD_BYTES
+            .checked_mul(fd_count)
+            .ok_or(Errno::EINVAL)?;
         Ok(CmsgHdr {
-            cmsg_len,
+            cmsg_len: CmsgHdr::len(data_len)?,
             cmsg_level: SOL_SOCKET,
             cmsg_type: SCM_RIGHTS,
         })
@@ -174,25 +171,19 @@ impl CmsgHdr {
     // The descriptor count of an `SCM_RIGHTS` header read from a control buffer of `control_len`
     // bytes. `None` when the level or type is different, the length leaves the buffer, or the data
     // is not whole descriptors.
+    #[tactic(auto, unfolding(crate::specs::Size::rights_count_of), using(words::proofs::Integers::equals_yes, words::proofs::Integers::equals_no))]
     pub fn scm_rights_count(self, control_len: u64) -> Option<u64>
         ensures { result ≡ rights_count_of self control_len }
     {
-        if self.cmsg_level != SOL_SOCKET {
+        if self.cmsg_level != SOL_SOCKET
+            || self.cmsg_type != SCM_RIGHTS
+            || self.cmsg_len > control_len
+        {
             return None;
         }
-        if self.cmsg_type != SCM_RIGHTS {
-            return None;
-        }
-        if self.cmsg_len > control_len {
-            return None;
-        }
-        if self.cmsg_len < CmsgHdr::BYTES {
-            return None;
-        }
-        let data_len = self.cmsg_len - CmsgHdr::BYTES;
-        if data_len % CmsgHdr::FD_BYTES != 0 {
-            return None;
-        }
-        Some(data_len / CmsgHdr::FD_BYTES)
+        let data_len = self.cmsg_len.checked_sub(CmsgHdr::BYTES)?;
+        data_len
+            .is_multiple_of(CmsgHdr::FD_BYTES)
+            .then_some(data_len / CmsgHdr::FD_BYTES)
     }
 }

@@ -4,11 +4,11 @@ use mathlib.Core.Bool.{Bool, true, false, cond, not}
 use mathlib.Core.List.{List, [], ◌∷◌, ◌++◌, append_assoc}
 use Prim.Native.Nat.{ℕ, ◌+◌, ◌-◌, ◌<◌, ◌≤◌}
 use native.Mathlib.Omega.{arith}
-use borrow.Author.Tests.{eq-eqb, ne_eqb, lt-ltb, le-ltb, not-true, not-false}
+use borrow.Author.Tests.{eq-eqb, lt-ltb, le-ltb, not-true, not-false}
 use lib.Dec.{eqb, ltb}
 use borrow.Rule.Slice.PartMut.{mid_of, put_mid}
 use lib.ListN.{length, take, drop, replicate, take-append-drop, length-take, length-drop}
-use lib.Seq.{sets, sets-eq, drop-drop}
+use lib.Seq.{sets, sets-eq, drop-drop, take_all}
 use Rattle.std.specs.Prelude.{Result, Ok, Err, MatchResult}
 use Rattle.std.specs.Result.{result_unwrap_or}
 use Rattle.words.specs.declared.Errno.{Errno}
@@ -16,8 +16,7 @@ use Rattle.words.specs.declared.Errno.TheVariants.{EINVAL, EAFNOSUPPORT, ENAMETO
 use Rattle.laws.proofs.Lists.{mid_is, put_back}
 use Rattle.le.specs.Le.{le, bytes}
 use Rattle.utf8.specs.Syntax.{is_utf8}
-use Rattle.address.specs.Address.{up_to_zero, ZeroFrom, Address, named, address_of, path_in, refusal_in, new_of, written, after_new, Wrote, length_of}
-use Rattle.address.proofs.Zeros.{front}
+use Rattle.address.specs.Address.{up_to_zero, Address, named, address_of, path_in, refusal_in, new_of, written, after_new, Wrote}
 
 -- ── What a path says ──
 
@@ -38,35 +37,22 @@ named_good (b ∷ p) n e = rw e
 
 -- ── path ──
 
-module _ (a : List ℕ) where
-  pub under_two : length a < 2 → address_of a ≡ Address.refused EINVAL
+module _ (a p : List ℕ) (h : 2 ≤ length a) (f : ℕ) (is : f ≡ le 2 a 0) (unix : f ≡ 1) (part : p ≡ up_to_zero (take (length a - 2) (drop 2 a))) where
+  -- an address of this family says what its path says
+  says : address_of a ≡ named p
   unfolding address_of
-  under_two h = rw (lt-ltb (length a) 2 h)
+  says =
+      let all : p ≡ up_to_zero (drop 2 a) = part ∙ ap up_to_zero (take_all (length a - 2) (drop 2 a) (omega (arith, length-drop 2 a))) in
+      rw (le-ltb (length a) 2 h, eq-eqb (le 2 a 0) 1 (sym is ∙ unix), all)
 
-  module _ (h : 2 ≤ length a) (f : ℕ) (is : f ≡ le 2 a 0) where
-    pub other_family : (f ≡ 1 → ⊥) → address_of a ≡ Address.refused EAFNOSUPPORT
-    unfolding address_of
-    other_family e = rw (le-ltb (length a) 2 h, ne_eqb (le 2 a 0) 1 (λ q. e (is ∙ q)))
+  pub says_empty : length p ≡ 0 → address_of a ≡ Address.refused EINVAL
+  says_empty z = says ∙ named_empty p z
 
-    module _ (unix : f ≡ 1) (e : ℕ) (end : ZeroFrom a 2 e) where
-      -- an address of this family says what its path says
-      says : address_of a ≡ named (up_to_zero (drop 2 a))
-      unfolding address_of
-      says = rw (le-ltb (length a) 2 h, eq-eqb (le 2 a 0) 1 (sym is ∙ unix))
+  pub says_bad : is_utf8 p ≡ false → address_of a ≡ Address.refused EINVAL
+  says_bad n = says ∙ named_bad p n
 
-      pub no_path : e ≡ 2 → address_of a ≡ Address.refused EINVAL
-      no_path z = rw (says, named_empty (up_to_zero (drop 2 a)) (omega arith))
-
-      -- the part that is tested
-      part : take (e - 2) (drop 2 a) ≡ up_to_zero (drop 2 a)
-      part = let n : e - 2 ≡ length (up_to_zero (drop 2 a)) = omega arith in rw n (front (drop 2 a))
-
-      module _ (b : Bool) (test : b ≡ is_utf8 (take (e - 2) (drop 2 a))) where
-        pub bad : not b ≡ true → address_of a ≡ Address.refused EINVAL
-        bad n = rw (says, named_bad (up_to_zero (drop 2 a)) (ap is_utf8 (sym part) ∙ sym test ∙ not-true b n))
-
-        pub fine : (e ≡ 2 → ⊥) → not b ≡ false → address_of a ≡ Address.path (take (e - 2) (drop 2 a))
-        fine z n = rw part (says ∙ named_good (up_to_zero (drop 2 a)) (λ q. z (omega arith)) (ap is_utf8 (sym part) ∙ sym test ∙ not-false b n))
+  pub says_path : (length p ≡ 0 → ⊥) → is_utf8 p ≡ true → address_of a ≡ Address.path p
+  says_path z n = says ∙ named_good p z n
 
 -- a path is what stands before the first zero
 path_named : (s p : List ℕ) → named s ≡ Address.path p → p ≡ s
@@ -94,14 +80,6 @@ unfolding path_in
 shown a now (Ok p) d h z = rw h refl
 shown a now (Err e) d h z = rw h z
 
-pub refused_is : (a : List ℕ) (e : Errno) → address_of a ≡ Address.refused e → Err e ≡ refusal_in (address_of a)
-unfolding refusal_in
-refused_is a e h = rw h refl
-
-pub path_has_none : (a p : List ℕ) → address_of a ≡ Address.path p → Ok tt ≡ refusal_in (address_of a)
-unfolding refusal_in
-path_has_none a p h = rw h refl
-
 -- "is empty exactly where refused"
 pub record Refused (m : Address) : Type 0 where
   pub why : Errno
@@ -125,16 +103,6 @@ empty_refused a e = go (ltb (length a) 2) (eqb (le 2 a 0) 1) e
     go true d q = record { why = EINVAL; is = refl }
     go false true q = named_refused (up_to_zero (drop 2 a)) q
     go false false q = record { why = EAFNOSUPPORT; is = refl }
-
--- ── len ──
-
-pub short : (a : List ℕ) → length a < 110 → Err SHORT ≡ length_of a
-unfolding length_of
-short a h = rw (lt-ltb (length a) 110 h)
-
-pub long : (a : List ℕ) (n : ℕ) → 110 ≤ length a → ZeroFrom (take 108 (drop 2 a)) 0 n → Ok (2 + n + 1) ≡ length_of a
-unfolding length_of
-long a n h e = let p : n ≡ length (up_to_zero (take 108 (drop 2 a))) = omega arith in rw (le-ltb (length a) 110 h, p)
 
 -- ── new ──
 

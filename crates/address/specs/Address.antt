@@ -1,5 +1,5 @@
 -- Document 01, "Addresses and control bytes", first paragraph: bytes 0 and 1 of an address hold its family, and its path stands behind them.
-use Rattle.std.specs.Prelude.{◌≡◌, cond, List, [], ◌∷◌, ◌++◌, ℕ, ◌+◌, ◌-◌, ◌≤◌, ltb, eqb, length, take, drop, replicate, Result, Ok, Err}
+use Rattle.std.specs.Prelude.{◌≡◌, cond, List, [], ◌∷◌, ◌++◌, ℕ, ◌+◌, ◌-◌, ltb, eqb, length, take, drop, replicate, Result, Ok, Err}
 use Rattle.words.specs.declared.Errno.{Errno}
 use Rattle.words.specs.declared.Errno.TheVariants.{EINVAL, EAFNOSUPPORT, ENAMETOOLONG, SHORT}
 use Rattle.le.specs.Le.{le}
@@ -11,11 +11,6 @@ use Rattle.utf8.specs.Syntax.{is_utf8}
 unfoldable pub up_to_zero : List ℕ → List ℕ
 up_to_zero [] = []
 up_to_zero (b ∷ s) = cond (eqb b 0) [] (b ∷ up_to_zero s)
-
--- the place of the first zero at or after `at`, or the length
-pub record ZeroFrom (s : List ℕ) (at r : ℕ) : Type 0 where
-  pub place : r ≡ at + length (up_to_zero (drop at s))
-  pub within : r ≤ length s
 
 -- what an address says: its path, or why it has none
 pub data Address : Type 0 where

@@ -2,8 +2,8 @@
 // is here read from and written to lent bytes.
 #![tactic(auto)]
 
-ghost use Rattle.std.specs.Prelude.{◌≡◌, ◌≤◌, length, MatchResult};
-ghost use Rattle.address.specs.Address.{Address, address_of, path_in, refusal_in, length_of, Wrote, ZeroFrom};
+ghost use Rattle.std.specs.Prelude.{◌≡◌, MatchResult};
+ghost use Rattle.address.specs.Address.{Address, address_of, path_in, refusal_in, length_of, Wrote, up_to_zero};
 
 use words::Errno;
 
@@ -18,6 +18,7 @@ impl SockAddrUn {
     pub const BYTES: usize = 110;
 
     // Writes the address of `path` into the first 110 bytes of `addr`.
+    #[tactic(auto, using(crate::proofs::Addresses::no_room, crate::proofs::Addresses::long_path, crate::proofs::Addresses::bad_path))]
     pub fn new(path: &[u8], addr: &mut [u8]) -> Result<(), Errno>
         ensures { Wrote path.now addr.old addr.new result }
     {
@@ -38,19 +39,20 @@ impl SockAddrUn {
     }
 
     // The byte count the kernel reads: the family, the path, and its zero.
+    #[tactic(auto, unfolding(crate::specs::Address::length_of))]
     pub fn len(addr: &[u8]) -> Result<u64, Errno>
         ensures { result ≡ length_of addr.now }
     {
         if addr.len() < SockAddrUn::BYTES {
             return Err(Errno::SHORT);
         }
-        let field = &addr[2..SockAddrUn::BYTES];
-        let n = zero_from(field, 0);
-        Ok((2 + n + 1) as u64)
+        let path = before_zero(&addr[2..SockAddrUn::BYTES]);
+        Ok((2 + path.len() + 1) as u64)
     }
 
     // The path inside `addr`, cut at the first zero: a part of the lent address itself; or why it
     // has none.
+    #[tactic(auto, unfolding(crate::specs::Address::address_of))]
     pub fn path(addr: &[u8]) -> Result<&[u8], Errno>
         ensures { MatchResult result (λ p. address_of addr.now ≡ Address.path p.now) (λ e. address_of addr.now ≡ Address.refused e) }
     {
@@ -60,18 +62,15 @@ impl SockAddrUn {
         if le::get::<u16, 2>(addr, 0) != abi::AF_UNIX {
             return Err(Errno::EAFNOSUPPORT);
         }
-        let end = zero_from(addr, 2);
-        if end == 2 {
-            return Err(Errno::EINVAL);
-        }
-        let path = &addr[2..end];
-        if !utf8::is_utf8(path) {
+        let path = before_zero(&addr[2..]);
+        if path.is_empty() || !utf8::is_utf8(path) {
             return Err(Errno::EINVAL);
         }
         Ok(path)
     }
 
     // The same part, empty where the address is refused.
+    #[tactic(auto, unfolding(crate::specs::Address::path_in))]
     pub fn path_of(addr: &[u8]) -> &[u8]
         ensures { result.now ≡ path_in (address_of addr.now) }
     {
@@ -79,6 +78,7 @@ impl SockAddrUn {
     }
 
     // Why an address has no path.
+    #[tactic(auto, unfolding(crate::specs::Address::refusal_in))]
     pub fn path_refusal(addr: &[u8]) -> Result<(), Errno>
         ensures { result ≡ refusal_in (address_of addr.now) }
     {
@@ -87,15 +87,12 @@ impl SockAddrUn {
     }
 }
 
-// The place of the first zero byte at or after `at`, or the length.
-fn zero_from(s: &[u8], at: usize) -> usize
-    requires { at ≤ length s.now }
-    ensures { ZeroFrom s.now at result }
+// The bytes before the first zero, or all of them.
+fn before_zero(s: &[u8]) -> &[u8]
+    ensures { result.now ≡ up_to_zero s.now }
 {
-    for i in at..s.len() {
-        if s[i] == 0 {
-            return i;
-        }
+    match s.iter().position(|&b| b == 0) {
+        Some(n) => &s[..n],
+        None => s,
     }
-    s.len()
 }

@@ -3,8 +3,10 @@
 // fit are refused with 18, an inbox that is not well with 19.
 #![tactic(auto)]
 
-ghost use Rattle.std.specs.Prelude.{◌≡◌, ◌≤◌, length};
+ghost use Rattle.std.specs.Prelude.{◌≡◌, ◌≤◌, length, IfOk, OnOk};
 ghost use Rattle.std.proofs.lemmas.List.Edits.{sets};
+ghost use Rattle.words.specs.Numbers.{refusal_of};
+ghost use Rattle.inbox.specs.Well.{Well};
 ghost use Rattle.bench_exports.specs.Checking.{check_no};
 ghost use Rattle.bench_exports.specs.Numbers.{numbers_in, listed};
 
@@ -12,7 +14,7 @@ use inbox::{AttachedItems, Inbox};
 use words::Errno;
 
 #[repr(C)]
-#[derive(Clone, Copy)]
+#[derive(Clone, Copy, Default)]
 pub struct BenchAnswer {
     pub refusal: u32,
     pub flags: u32,
@@ -20,15 +22,6 @@ pub struct BenchAnswer {
     pub items: u64,
     pub released: u64,
 }
-
-// Nothing was moved or handed over.
-const NOTHING: BenchAnswer = BenchAnswer {
-    refusal: 0,
-    flags: 0,
-    moved: 0,
-    items: 0,
-    released: 0,
-};
 
 #[unsafe(no_mangle)]
 pub extern "C" fn bench_push(
@@ -39,13 +32,10 @@ pub extern "C" fn bench_push(
     buf: &[u8],
     items: &[u32],
 ) -> BenchAnswer {
-    if numbers.len() < 5 || 65536 < ring.len() || places.len() != 256 || tokens.len() != 256 {
-        return refused(Errno::SHORT);
-    }
-    let inbox = load(numbers);
-    if !inbox.is_well(places, ring.len()) {
-        return refused(Errno::DAMAGED);
-    }
+    let inbox = match load(numbers, ring, places, tokens) {
+        Ok(inbox) => inbox,
+        Err(no) => return refused(no),
+    };
     if let Err(no) = inbox.push_refusal(ring.len(), buf.len(), items.len()) {
         return refused(no);
     }
@@ -53,7 +43,7 @@ pub extern "C" fn bench_push(
     store(numbers, pushed.inbox);
     BenchAnswer {
         moved: pushed.moved as u64,
-        ..NOTHING
+        ..BenchAnswer::default()
     }
 }
 
@@ -68,25 +58,19 @@ pub extern "C" fn bench_take(
     items: &mut [u32],
     releases: &mut [u32],
 ) -> BenchAnswer {
-    if numbers.len() < 5 || 65536 < ring.len() || places.len() != 256 || tokens.len() != 256 {
-        return refused(Errno::SHORT);
-    }
     if releases.len() < 256 {
         return refused(Errno::SHORT);
     }
-    let inbox = load(numbers);
-    if !inbox.is_well(places, ring.len()) {
-        return refused(Errno::DAMAGED);
-    }
-    let taken = inbox.take(
-        ring,
-        places,
-        tokens,
-        buf,
-        policy(hand_over),
-        items,
-        releases,
-    );
+    let inbox = match load(numbers, ring, places, tokens) {
+        Ok(inbox) => inbox,
+        Err(no) => return refused(no),
+    };
+    let policy = if hand_over {
+        AttachedItems::Take
+    } else {
+        AttachedItems::Drop
+    };
+    let taken = inbox.take(ring, places, tokens, buf, policy, items, releases);
     store(numbers, taken.inbox);
     BenchAnswer {
         refusal: 0,
@@ -102,48 +86,54 @@ pub extern "C" fn bench_take(
 pub extern "C" fn bench_check(words: &[u64], bytes: &[u8], n: usize, c: usize) -> u32
     ensures { result ≡ check_no n c words.now bytes.now }
 {
-    if !table::sizes::in_range(n, c) {
-        return Errno::EINVAL.number();
-    }
-    let least = storage::least_sizes(n, c);
-    if words.len() < least.words {
-        return Errno::SHORT.number();
-    }
-    if bytes.len() < least.bytes {
-        return Errno::SHORT.number();
-    }
-    if !table::well_formed(words, bytes, n, c) {
-        return Errno::DAMAGED.number();
-    }
-    0
+    words::refusal(checked(words, bytes, n, c))
 }
 
-fn policy(hand_over: bool) -> AttachedItems {
-    if hand_over {
-        AttachedItems::Take
-    } else {
-        AttachedItems::Drop
+#[tactic(auto, unfolding(crate::specs::Checking::check_no, rules::specs::Run::admission, table::specs::OnePass::checks), using(table::proofs::Facts::ranged))]
+fn checked(words: &[u64], bytes: &[u8], n: usize, c: usize) -> Result<(), Errno>
+    ensures { refusal_of result ≡ check_no n c words.now bytes.now }
+{
+    if !table::sizes::in_range(n, c) {
+        return Err(Errno::EINVAL);
     }
+    let least = storage::least_sizes(n, c);
+    if words.len() < least.words || bytes.len() < least.bytes {
+        return Err(Errno::SHORT);
+    }
+    if !table::well_formed(words, bytes, n, c) {
+        return Err(Errno::DAMAGED);
+    }
+    Ok(())
 }
 
 fn refused(no: Errno) -> BenchAnswer {
     BenchAnswer {
         refusal: no.number(),
-        ..NOTHING
+        ..BenchAnswer::default()
     }
 }
 
-fn load(numbers: &[u64]) -> Inbox
-    requires { 5 ≤ length numbers.now }
-    ensures { result ≡ numbers_in numbers.now }
+// The inbox of the five numbers, where it is well and all lists have their sizes.
+#[tactic(auto, using(inbox::proofs::Kept::well))]
+fn load(numbers: &[u64], ring: &[u8], places: &[u64], tokens: &[u32]) -> Result<Inbox, Errno>
+    ensures inbox { IfOk result (λ inbox. inbox ≡ numbers_in numbers.now) }
+    ensures well { IfOk result (Well (length ring.now) places.now) }
+    ensures sizes { OnOk result ((5 ≤ length numbers.now) × (length ring.now ≤ 65536) × (length places.now ≡ 256) × (length tokens.now ≡ 256)) }
 {
-    Inbox {
+    if numbers.len() < 5 || 65536 < ring.len() || places.len() != 256 || tokens.len() != 256 {
+        return Err(Errno::SHORT);
+    }
+    let inbox = Inbox {
         head: numbers[0] as usize,
         written_total: numbers[1],
         read_total: numbers[2],
         first: numbers[3] as usize,
         items: numbers[4] as usize,
+    };
+    if !inbox.is_well(places, ring.len()) {
+        return Err(Errno::DAMAGED);
     }
+    Ok(inbox)
 }
 
 fn store(numbers: &mut [u64], inbox: Inbox)

@@ -1,5 +1,5 @@
 -- The returns of `eid_address_path`, and that the part of an address which its numbers name is the path.
-use mathlib.Core.Path.{◌≡◌, refl, sym, ap, ◌∙◌}
+use mathlib.Core.Path.{◌≡◌, sym, ap, ◌∙◌}
 use mathlib.Core.List.{List}
 use Prim.Native.Nat.{ℕ}
 use lib.ListN.{length, take, drop}
@@ -20,6 +20,6 @@ module _ (a : List ℕ) where
         part = ap (λ (l : List ℕ). take (length l) (drop 2 a)) q ∙ front (drop 2 a) ∙ sym q ∙ ap path_in (sym e);
       }
 
-  pub no_path : (e : Errno) → address_of a ≡ Address.refused e → (n : ℕ) → n ≡ number_of e → Shown a (record { refusal = n; start = 0; length = 0 })
+  pub no_path : (e : Errno) → address_of a ≡ Address.refused e → (n s l : ℕ) → n ≡ number_of e → s ≡ 0 → l ≡ 0 → Shown a (record { refusal = n; start = s; length = l })
   unfolding path_numbers path_in
-  no_path e h n t = rw t (record { says = ap path_numbers (sym h); part = ap path_in (sym h) })
+  no_path e h n s l t u v = rw (t, u, v) (record { says = ap path_numbers (sym h); part = ap path_in (sym h) })

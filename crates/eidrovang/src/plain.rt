@@ -23,7 +23,7 @@ pub struct EidNumber {
 
 // Where the path stands in an address.
 #[repr(C)]
-#[derive(Clone, Copy)]
+#[derive(Clone, Copy, Default)]
 pub struct EidPath {
     pub refusal: u32,
     pub start: usize,
@@ -32,7 +32,7 @@ pub struct EidPath {
 
 // A control header's three fields.
 #[repr(C)]
-#[derive(Clone, Copy)]
+#[derive(Clone, Copy, Default)]
 pub struct EidHeader {
     pub refusal: u32,
     pub cmsg_level: i32,
@@ -73,8 +73,7 @@ pub extern "C" fn eid_address_path(addr: &[u8]) -> EidPath
         },
         Err(no) => EidPath {
             refusal: no.number(),
-            start: 0,
-            length: 0,
+            ..EidPath::default()
         },
     }
 }
@@ -111,20 +110,7 @@ pub extern "C" fn eid_scm_rights_space(fd_count: u64) -> EidNumber
 pub extern "C" fn eid_scm_rights(fd_count: u64) -> EidHeader
     ensures { result ≡ header_numbers (rights_of fd_count) }
 {
-    match CmsgHdr::scm_rights(fd_count) {
-        Ok(hdr) => EidHeader {
-            refusal: 0,
-            cmsg_level: hdr.cmsg_level,
-            cmsg_type: hdr.cmsg_type,
-            cmsg_len: hdr.cmsg_len,
-        },
-        Err(no) => EidHeader {
-            refusal: no.number(),
-            cmsg_level: 0,
-            cmsg_type: 0,
-            cmsg_len: 0,
-        },
-    }
+    CmsgHdr::scm_rights(fd_count).into()
 }
 
 #[unsafe(no_mangle)]
@@ -211,12 +197,35 @@ pub extern "C" fn eid_recvmsg_capacity(flags: i32, controllen: u64) -> EidNumber
 impl From<Result<u64, Errno>> for EidNumber {
     ghost from_gives = { λ answer number. number ≡ numbers answer };
 
+    #[tactic(auto, unfolding(crate::specs::Numbers::numbers))]
     fn from(answer: Result<u64, Errno>) -> EidNumber
         ensures { result ≡ numbers answer }
     {
         EidNumber {
             refusal: words::refusal(answer),
             value: words::value(answer),
+        }
+    }
+}
+
+impl From<Result<CmsgHdr, Errno>> for EidHeader {
+    ghost from_gives = { λ answer header. header ≡ header_numbers answer };
+
+    #[tactic(auto, unfolding(crate::specs::Numbers::header_numbers))]
+    fn from(answer: Result<CmsgHdr, Errno>) -> EidHeader
+        ensures { result ≡ header_numbers answer }
+    {
+        match answer {
+            Ok(hdr) => EidHeader {
+                refusal: 0,
+                cmsg_level: hdr.cmsg_level,
+                cmsg_type: hdr.cmsg_type,
+                cmsg_len: hdr.cmsg_len,
+            },
+            Err(no) => EidHeader {
+                refusal: no.number(),
+                ..EidHeader::default()
+            },
         }
     }
 }

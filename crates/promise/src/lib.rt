@@ -8,7 +8,7 @@ use words::Errno;
 
 // What an accepted call answers: recvmsg's flags, the value, and how many entries are filled of the
 // item list, the wake list and the release list.
-#[derive(Clone, Copy, Debug, PartialEq, Eq)]
+#[derive(Clone, Copy, Debug, Default, PartialEq, Eq)]
 pub struct Accepted {
     pub flags: u32,
     pub value: u64,
@@ -19,7 +19,7 @@ pub struct Accepted {
 
 // The same for C, with 01's number (0: accepted); of a refusal all but the number is 0.
 #[repr(C)]
-#[derive(Clone, Copy, Debug, PartialEq, Eq)]
+#[derive(Clone, Copy, Debug, Default, PartialEq, Eq)]
 pub struct Answer {
     pub refusal: u32,
     pub flags: u32,
@@ -35,11 +35,9 @@ impl Accepted {
         ensures { told (Ok result) ≡ accepted_with value wakes }
     {
         Accepted {
-            flags: 0,
             value,
-            items: 0,
             wakes: wakes as u64,
-            releases: 0,
+            ..Accepted::default()
         }
     }
 
@@ -71,11 +69,7 @@ impl From<Result<Accepted, Errno>> for Answer {
             },
             Err(no) => Answer {
                 refusal: no.number(),
-                flags: 0,
-                value: 0,
-                items: 0,
-                wakes: 0,
-                releases: 0,
+                ..Answer::default()
             },
         }
     }

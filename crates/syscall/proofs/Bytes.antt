@@ -14,7 +14,7 @@ use Rattle.laws.proofs.Lists.{put_next}
 use Rattle.le.specs.Le.{le, bytes}
 use Rattle.le.proofs.Widths.{length-bytes, sets-append}
 use Rattle.abi.specs.declared.CmsgHdr.{CmsgHdr}
-use Rattle.syscall.specs.Control.{header_at, descriptors_at, header_bytes, descriptor_bytes}
+use Rattle.syscall.specs.Control.{descriptors_at, header_bytes, descriptor_bytes}
 
 pub length-header : (h : CmsgHdr) → length (header_bytes h) ≡ 16
 unfolding header_bytes
@@ -24,12 +24,7 @@ length-header h =
     let c = bytes 4 (of_z w32 h.cmsg_type) in
     omega (arith, length-append a (b ++ c), length-append b c, length-bytes 8 h.cmsg_len, length-bytes 4 (of_z w32 h.cmsg_level), length-bytes 4 (of_z w32 h.cmsg_type))
 
--- a header read out of memory, and one put into it
-pub header_read : (b : List ℕ) (n : ℕ) (l t : ℤ) → SFits w32 l → SFits w32 t → n ≡ le 8 b 0 → l ≡ to_z w32 (le 4 b 8) → t ≡ to_z w32 (le 4 b 12)
-    → record { cmsg_len = n; cmsg_level = to_z w32 (of_z w32 l); cmsg_type = to_z w32 (of_z w32 t) } ≡ header_at b
-unfolding header_at
-header_read b n l t fl ft p q r = rw (to_z-of_z w32 l fl, to_z-of_z w32 t ft, p, q, r)
-
+-- a header put into memory
 pub header_put : (h : CmsgHdr) (l l₁ l₂ l₃ : List ℕ) → SFits w32 h.cmsg_level → SFits w32 h.cmsg_type → l₁ ≡ sets l 0 (bytes 8 h.cmsg_len)
     → l₂ ≡ sets l₁ 8 (bytes 4 (of_z w32 (to_z w32 (of_z w32 h.cmsg_level)))) → l₃ ≡ sets l₂ 12 (bytes 4 (of_z w32 (to_z w32 (of_z w32 h.cmsg_type))))
     → l₃ ≡ sets l 0 (header_bytes h)

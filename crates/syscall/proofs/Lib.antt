@@ -1,4 +1,3 @@
-pub mod Checks
 pub mod Bytes
 pub mod Parsing
 pub mod Encoding

@@ -15,6 +15,7 @@ use abi::CmsgHdr;
 use words::{Descriptor, Errno};
 
 // The checks of `sys_socket`, in its order.
+#[tactic(auto, unfolding(crate::specs::Arguments::socket_of), using(words::proofs::Integers::equals_yes, words::proofs::Integers::equals_no))]
 pub fn socket_refusal(domain: i32, ty: i32, protocol: i32) -> Result<(), Errno>
     ensures { result ≡ socket_of domain ty protocol }
 {
@@ -31,6 +32,7 @@ pub fn socket_refusal(domain: i32, ty: i32, protocol: i32) -> Result<(), Errno>
 }
 
 // What `sys_sendmsg` asks before the table call: the flags, then the control bytes.
+#[tactic(auto, using(words::proofs::Integers::equals_yes, words::proofs::Integers::equals_no))]
 pub fn sendmsg_control(flags: i32, control: &[u8], fds: &mut [i32]) -> Result<u64, Errno>
     ensures { SendParsed flags control.now fds.old fds.new result }
 {
@@ -41,6 +43,7 @@ pub fn sendmsg_control(flags: i32, control: &[u8], fds: &mut [i32]) -> Result<u6
 }
 
 // What `sys_recvmsg` asks before the table call: the flags, then how many descriptors fit.
+#[tactic(auto, unfolding(crate::specs::Promise::recv_capacity_of), using(words::proofs::Integers::equals_yes, words::proofs::Integers::equals_no))]
 pub fn recvmsg_capacity(flags: i32, controllen: u64) -> Result<u64, Errno>
     ensures { result ≡ recv_capacity_of flags controllen }
 {
@@ -72,13 +75,11 @@ pub fn parse_scm_rights(control: &[u8], fds: &mut [i32]) -> Result<u64, Errno>
     Ok(n)
 }
 
+#[tactic(auto, unfolding(crate::specs::Control::capacity_of))]
 pub fn scm_rights_capacity(controllen: u64) -> u64
     ensures { result ≡ capacity_of controllen }
 {
-    if controllen < CmsgHdr::BYTES {
-        return 0;
-    }
-    (controllen - CmsgHdr::BYTES) / CmsgHdr::FD_BYTES
+    controllen.saturating_sub(CmsgHdr::BYTES) / CmsgHdr::FD_BYTES
 }
 
 pub fn encode_scm_rights(fds: &[i32], control: &mut [u8]) -> Result<u64, Errno>
@@ -99,6 +100,7 @@ pub fn encode_scm_rights(fds: &[i32], control: &mut [u8]) -> Result<u64, Errno>
     Ok(space.min(room))
 }
 
+#[tactic(auto, unfolding(crate::specs::Control::header_at))]
 fn read_header(control: &[u8]) -> CmsgHdr
     requires { 16 ≤ length control.now }
     ensures { result ≡ header_at control.now }
@@ -110,6 +112,7 @@ fn read_header(control: &[u8]) -> CmsgHdr
     }
 }
 
+#[tactic(auto, using(crate::proofs::Bytes::header_put))]
 fn write_header(control: &mut [u8], hdr: CmsgHdr)
     requires { 16 ≤ length control.old }
     ensures { control.new ≡ sets control.old 0 (header_bytes hdr) }
@@ -126,6 +129,7 @@ fn read_descriptor(part: &[u8], at: usize) -> Descriptor
     Descriptor(le::get(part, at))
 }
 
+#[tactic(auto, using(crate::proofs::Bytes::descriptor_put))]
 fn write_descriptor(control: &mut [u8], at: usize, fd: Descriptor)
     requires { at + 4 ≤ length control.old }
     ensures { control.new ≡ sets control.old at (bytes 4 (of_z w32 fd.0)) }
@@ -134,6 +138,7 @@ fn write_descriptor(control: &mut [u8], at: usize, fd: Descriptor)
 }
 
 // One descriptor for every four bytes; the entries after them stay.
+#[tactic(auto, unfolding(crate::specs::Control::descriptors_at), using(crate::proofs::Bytes::read_all))]
 fn read_descriptors(part: &[u8], fds: &mut [i32])
     requires { length part.now / 4 ≤ length fds.old }
     ensures { fds.new ≡ descriptors_at (length part.now / 4) part.now 0 ++ drop (length part.now / 4) fds.old }
@@ -143,11 +148,12 @@ fn read_descriptors(part: &[u8], fds: &mut [i32])
     }
 }
 
+#[tactic(auto, unfolding(crate::specs::Control::descriptor_bytes), using(crate::proofs::Bytes::write_next, crate::proofs::Bytes::written_all))]
 fn write_descriptors(fds: &[i32], control: &mut [u8])
     requires { 16 + 4 * length fds.now ≤ length control.old }
     ensures { control.new ≡ sets control.old 16 (descriptor_bytes fds.now) }
 {
-    for i in 0..fds.len() {
-        write_descriptor(control, 16 + 4 * i, Descriptor(fds[i]));
+    for (i, &fd) in fds.iter().enumerate() {
+        write_descriptor(control, 16 + 4 * i, Descriptor(fd));
     }
 }

@@ -7,7 +7,7 @@ use lib.Dec.{eqb}
 use lib.IntN.{ℤ}
 use lib.ListN.{length}
 use borrow.Author.Tests.{ne_eqb}
-use Rattle.std.specs.Prelude.{Result, Ok, Err}
+use Rattle.std.specs.Prelude.{Result, Ok, Err, IsErrAnd}
 use Rattle.words.specs.Numbers.{number_of, refusal_of}
 use Rattle.words.specs.declared.Errno.{Errno}
 use Rattle.rules.specs.Outcome.{Call, Outcome, refuse, refuse_if}
@@ -16,9 +16,11 @@ use Rattle.storage.specs.Rows.{Store}
 use Rattle.storage.specs.View.{view}
 use Rattle.table.specs.Admission.{admits, Admitted}
 use Rattle.table.proofs.Facts.{admitted}
-use Rattle.promise.specs.Answers.{refused_with}
+use Rattle.promise.specs.Answers.{told}
 use Rattle.promise.specs.Promise.{Lists, Done, Filled, Runs, Fills, outcome, Promise, PromiseFills}
 use Rattle.promise.specs.declared.Answer.{Answer}
+use Rattle.promise.specs.declared.Accepted.{Accepted}
+use Rattle.promise.proofs.Answering.{passed_on}
 use Rattle.promise.proofs.Known.{refused_done}
 use Rattle.words.proofs.Names.{number_some}
 
@@ -40,8 +42,9 @@ module _ (n c : ℕ) (s : Store) (l : Lists) (v : Result Unit Errno) (ev : refus
     unfolding refuse_if
     is_refused call = outcome_is n c s l call ∙ rw (sym ev, er, some_refusal e)
 
-    pub refused_first : (call : Call) (r : Answer) → r ≡ refused_with (number_of e) → Promise call n c s s l l r
-    refused_first call r h = refused_done (outcome n c s l call) (number_of e) n c s l r (is_refused call) (number_some e) h
+    -- r is what a `?` hands on
+    pub refused_first : (call : Call) (r : Result Accepted Errno) → IsErrAnd r (λ y. y ≡ e) → Promise call n c s s l l (told r)
+    refused_first call r h = refused_done (outcome n c s l call) (number_of e) n c s l (told r) (is_refused call) (number_some e) (passed_on r e h)
 
     pub refused_fills : (call : Call) (buf items : List ℕ) → PromiseFills call n c s l buf buf items items
     refused_fills call buf items = rw (is_refused call) (record { buffer = refl; item_list = refl })

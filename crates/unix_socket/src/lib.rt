@@ -1,6 +1,8 @@
 // The twelve calls, over kernel/unix_socket/src/lib.rs, and the making of a table. Each may be called
 // with anything: what is lent is asked first, and then the call goes on in the crates below.
-#![tactic(auto)]
+//
+// Stays: the lent lists are parameters of their own, since each call writes some and only reads others, as C's pointers say: a struct of all would ask to write every one.
+#![tactic(auto, using(crate::proofs::Entered::enters))]
 
 ghost use Rattle.std.specs.Prelude.{◌≡◌, [], length};
 ghost use Rattle.rules.specs.Outcome.{Call};
@@ -18,7 +20,7 @@ use words::{Errno, Handle};
 
 // For C: 01's number, and the least sizes of what is lent where it is 0.
 #[repr(C)]
-#[derive(Clone, Copy)]
+#[derive(Clone, Copy, Default)]
 pub struct Least {
     pub refusal: u32,
     pub words: u64,
@@ -45,17 +47,14 @@ impl From<Result<Sizes, Errno>> for Least {
             },
             Err(no) => Least {
                 refusal: no.number(),
-                words: 0,
-                bytes: 0,
-                tokens: 0,
-                wakes: 0,
-                releases: 0,
+                ..Least::default()
             },
         }
     }
 }
 
 // The least sizes for `n` slots of capacity `c`.
+#[tactic(auto, unfolding(crate::specs::Least::least_of), using(table::proofs::Facts::ranged))]
 pub fn sizes(n: usize, c: usize) -> Result<Sizes, Errno>
     ensures { least_told result ≡ least_of n c }
 {

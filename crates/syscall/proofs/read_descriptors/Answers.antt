@@ -1,20 +1,9 @@
 use borrow.Author.Rules.{sfits_of}
 use lib.ListN.{length-set}
 use mathlib.Core.Path.{◌∙◌}
-use Rattle.syscall.proofs.Bytes.{read_all}
-use mathlib.Core.Path.{refl}
 use native.Mathlib.Omega.{arith}
-use borrow.Author.Rules.{rules}
-use Rattle.syscall.specs.Control.{descriptors_at}
 use Rattle.syscall.proofs.Bytes.{read_next}
 use Rattle.syscall.proofs.read_descriptors.Goals as goal
 
-pub loop-i-init : goal.loop-i-init
-unfolding descriptors_at
-loop-i-init c = (refl, refl)
-
 pub loop-i-preserved : goal.loop-i-preserved
 loop-i-preserved c = (simp length-set (omega arith), read_next _ _ _ c.loop-i.i _ (sfits_of c.number.type_inv) (omega arith) c.loop-i.invariant.1 (c.number.ensures ∙ c.read_descriptor.ensures))
-
-pub returns : goal.returns
-returns c = read_all _ _ _ _ _ (search rules) (search rules) c.loop-i.invariant.1

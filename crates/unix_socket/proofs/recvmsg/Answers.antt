@@ -1,16 +1,10 @@
-use Rattle.promise.proofs.Answering.{passed_on}
-use Rattle.unix_socket.proofs.Entered.{enters, refused_first, then_runs, refused_fills, then_fills}
+use Rattle.unix_socket.proofs.Entered.{refused_first, then_runs, refused_fills, then_fills}
 use Rattle.unix_socket.proofs.recvmsg.Goals as goal
-
-pub recvmsg_admitted-requires : goal.recvmsg_admitted-requires
-recvmsg_admitted-requires c =
-    let v = c.admission in
-    enters v.result v.ensures c.in_ok-admission.was
 
 pub returns-in_err-admission : goal.returns-in_err-admission
 returns-in_err-admission c =
     record {
-      promise = refused_first _ _ _ _ _ c.admission.ensures _ c.in_err-admission.was _ _ (passed_on _ _ c.from_residual.ensures.1);
+      promise = refused_first _ _ _ _ _ c.admission.ensures _ c.in_err-admission.was _ _ c.from_residual.ensures.1;
       promise_fills = refused_fills _ _ _ _ _ c.admission.ensures _ c.in_err-admission.was _ _ _;
     }
 

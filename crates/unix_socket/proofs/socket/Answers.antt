@@ -1,18 +1,12 @@
-use Rattle.promise.proofs.Answering.{passed_on}
-use Rattle.unix_socket.proofs.Entered.{enters, refused_first, then_socket}
+use Rattle.unix_socket.proofs.Entered.{refused_first, then_socket}
 use mir.Facts.{to_z-of_z}
 use Rattle.storage.specs.Rows.{lent}
 use Rattle.promise.specs.Promise.{lists}
 use Rattle.unix_socket.proofs.socket.Goals as goal
 
-pub socket_admitted-requires : goal.socket_admitted-requires
-socket_admitted-requires c =
-    let v = c.admission in
-    enters v.result v.ensures c.in_ok-admission.was
-
 pub returns-in_err-admission : goal.returns-in_err-admission
 returns-in_err-admission c =
-    refused_first _ _ _ _ _ c.admission.ensures _ c.in_err-admission.was _ _ (passed_on _ _ c.from_residual.ensures.1)
+    refused_first _ _ _ _ _ c.admission.ensures _ c.in_err-admission.was _ _ c.from_residual.ensures.1
 
 pub returns : goal.returns
 returns c =

@@ -1,20 +1,16 @@
-use Rattle.address.proofs.Addresses.{under_two, other_family, no_path, bad, fine}
-use borrow.Author.Rules.{rules}
-use mathlib.Core.Path.{ap}
-use mathlib.Core.Bool.{not}
+use mathlib.Core.Path.{sym}
+use borrow.Author.Tests.{eqb-true, eqb-false}
+use Rattle.std.proofs.Common.{rules}
+use Rattle.address.proofs.Addresses.{says_empty, says_bad, says_path}
+use Rattle.address.proofs.SockAddrUn.path.Goals.{then-is_empty-via-then-is_empty, then-is_empty-via-else-is_empty+then-not-is_utf8}
 use Rattle.address.proofs.SockAddrUn.path.Goals as goal
 
-pub returns-then-addr-lt2 : goal.returns-then-addr-lt2
-returns-then-addr-lt2 c = search under_two
-
-pub returns-then-get-ne-AF_UNIX : goal.returns-then-get-ne-AF_UNIX
-returns-then-get-ne-AF_UNIX c = other_family _ (search rules) _ c.get.ensures c.if-get-ne-AF_UNIX.true
-
-pub returns-then-end-eq2 : goal.returns-then-end-eq2
-returns-then-end-eq2 c = no_path _ (search rules) _ c.get.ensures (search rules) _ c.zero_from-end.ensures c.if-end-eq2.true
-
-pub returns-then-not-is_utf8 : goal.returns-then-not-is_utf8
-returns-then-not-is_utf8 c = bad _ (search rules) _ c.get.ensures (search rules) _ c.zero_from-end.ensures _ c.is_utf8.ensures (ap not c.if-not-is_utf8.true)
+pub returns-then-is_empty : goal.returns-then-is_empty
+returns-then-is_empty c =
+    elim c.then-is_empty.branch [
+      | then-is_empty-via-then-is_empty w ↦ says_empty _ _ (search rules) _ c.get.ensures (search rules) c.before_zero-path.ensures (eqb-true _ 0 (sym w.if-is_empty.ensures))
+      | then-is_empty-via-else-is_empty+then-not-is_utf8 w ↦ says_bad _ _ (search rules) _ c.get.ensures (search rules) c.before_zero-path.ensures (sym w.if-not-is_utf8.ensures)
+    ]
 
 pub returns : goal.returns
-returns c = fine _ (search rules) _ c.get.ensures (search rules) _ c.zero_from-end.ensures _ c.is_utf8.ensures c.if-end-eq2.false (ap not c.if-not-is_utf8.false)
+returns c = says_path _ _ (search rules) _ c.get.ensures (search rules) c.before_zero-path.ensures (eqb-false _ 0 (sym c.if-is_empty.ensures)) (sym c.if-not-is_utf8.ensures)
