@@ -116,9 +116,9 @@ impl Player {
         let slots = words.up_to(MOST_SIZE)?;
         let capacity = words.up_to(MOST_SIZE)?;
         words.end()?;
-        if self.host.make(slots, capacity).is_err() {
-            return Err(LineError::Unreadable);
-        }
+        self.host
+            .make(slots, capacity)
+            .or(Err(LineError::Unreadable))?;
         self.tables = self.tables.saturating_add(1);
         Ok(())
     }
