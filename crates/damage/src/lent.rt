@@ -154,10 +154,11 @@ impl Lent {
     /// The number that a call is answered. Items are not looked at: one list stands for the items
     /// and for the releases.
     pub fn answer(&self, ask: Ask) -> u32 {
-        let words = &self.words[..ask.words.min(WORDS)];
+        let storage = &self.words[..ask.words.min(WORDS)];
         let wakes = &[0; WAKES][..ask.wakes.min(WAKES)];
         let items = [0; TOKENS];
-        table::admission(words, &self.bytes, &items, wakes, &items, ask.n, ask.c).number()
+        let admission = table::admission(storage, &self.bytes, &items, wakes, &items, ask.n, ask.c);
+        words::refusal(admission)
     }
 }
 

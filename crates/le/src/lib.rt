@@ -10,9 +10,10 @@ ghost use Rattle.le.specs.Le.{le, bytes};
 
 /// A number that lies in N bytes.
 pub trait LittleEndian<const N: usize>: Copy {
-    // The number that has these bits, and its bits.
+    // The number that has these bits.
     ghost number: { ℕ → Self };
 
+    // The bits of a number.
     ghost bits: { Self → ℕ };
 
     fn from_bytes(stored: &[u8; N]) -> Self

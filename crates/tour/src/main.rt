@@ -10,20 +10,20 @@ fn read(rt: &impl Print, addr: &[u8]) -> io::Result<()> {
         print!(rt; " {byte:02x}")?;
     }
     println!(rt)?;
-    match SockAddrUn::path_refusal(addr).number() {
-        0 => {
+    match SockAddrUn::path(addr) {
+        Ok(path) => {
             print!(rt; "        is the path \"")?;
-            rt.write_all(SockAddrUn::path_of(addr))?;
+            rt.write_all(path)?;
             println!(rt; "\"")
         }
-        no => println!(rt; "        is refused with number {no}"),
+        Err(no) => println!(rt; "        is refused with number {}", no.number()),
     }
 }
 
 fn main(rt: HostRuntime) -> io::Result<()> {
     let mut addr = [0; SockAddrUn::BYTES];
-    let refusal = SockAddrUn::new(b"/run/sampler", &mut addr).number();
-    let len = SockAddrUn::len(&addr).value();
+    let refusal = words::refusal(SockAddrUn::new(b"/run/sampler", &mut addr));
+    let len = words::value(SockAddrUn::len(&addr));
     println!(rt; "written \"/run/sampler\": refusal {refusal}, address of {len} bytes")?;
     let written = addr.get(..len as usize).unwrap_or(&addr);
     // What was written, another family, no path, no UTF-8, one byte.
