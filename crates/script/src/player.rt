@@ -126,7 +126,7 @@ impl Player {
     // `word K V`: word K of the storage becomes V.
     fn word(&mut self, mut words: Words<'_>) -> Result<(), LineError> {
         let place = words.up_to(MOST_SIZE)?;
-        let value = words.number()?;
+        let value = words.parse()?;
         words.end()?;
         *self.host.word_mut(place).ok_or(LineError::Unreadable)? = value;
         Ok(())

@@ -1,7 +1,7 @@
 // The text of each form, and which words are read.
 use crate::dotted::Dotted;
 use crate::line::Words;
-use crate::text::{LineError, bytes, number};
+use crate::text::{LineError, bytes, parse};
 use crate::write::{Delivered, Letters, Runs, Wakes};
 use std::test::Fail;
 
@@ -30,10 +30,10 @@ fn writes_what_was_delivered(rt: HostRuntime) -> Result<(), Fail> {
 
 #[test]
 fn reads_numbers(rt: HostRuntime) {
-    assert_eq!(rt; number::<u8>("0255"), Ok(255));
-    assert_eq!(rt; number::<i32>("-2147483648"), Ok(-2_147_483_648));
+    assert_eq!(rt; parse::<u8>("0255"), Ok(255));
+    assert_eq!(rt; parse::<i32>("-2147483648"), Ok(-2_147_483_648));
     for word in ["", "+1", "-1", "256", "1 ", "0x1", "99999999999999999999"] {
-        assert_eq!(rt; number::<u8>(word), Err(LineError::Unreadable), "{word}");
+        assert_eq!(rt; parse::<u8>(word), Err(LineError::Unreadable), "{word}");
     }
 }
 
@@ -75,7 +75,7 @@ fn reads_bytes(rt: HostRuntime) -> Result<(), Fail> {
 fn reads_words(rt: HostRuntime) {
     let mut words = Words::new("read 1.2 10 ");
     assert_eq!(rt; words.word(), Ok("read"));
-    assert_eq!(rt; words.handle(), Ok(Dotted(65_538)));
+    assert_eq!(rt; words.parse(), Ok(Dotted(65_538)));
     assert_eq!(rt; words.end(), Err(LineError::Unreadable));
     assert_eq!(rt; words.up_to(10), Ok(10));
     assert_eq!(rt; words.end(), Ok(()));
