@@ -79,9 +79,9 @@ fn descriptors(alloc: Global, words: &mut Words<'_>) -> Result<Vec<i32>, LineErr
 
 fn header(words: &mut Words<'_>) -> Result<CmsgHdr, LineError> {
     Ok(CmsgHdr {
-        cmsg_len: words.number()?,
-        cmsg_level: words.number()?,
-        cmsg_type: words.number()?,
+        cmsg_len: words.parse()?,
+        cmsg_level: words.parse()?,
+        cmsg_type: words.parse()?,
     })
 }
 
@@ -95,11 +95,11 @@ impl Question {
         ensures { IfOk result (λ found. IfSome found IsWithinLimits) }
     {
         Ok(Some(match name {
-            "align" => Question::Align(words.number()?),
-            "len" => Question::Len(words.number()?),
-            "space" => Question::Space(words.number()?),
-            "scm_rights_space" => Question::ScmRightsSpace(words.number()?),
-            "capacity" => Question::Capacity(words.number()?),
+            "align" => Question::Align(words.parse()?),
+            "len" => Question::Len(words.parse()?),
+            "space" => Question::Space(words.parse()?),
+            "scm_rights_space" => Question::ScmRightsSpace(words.parse()?),
+            "capacity" => Question::Capacity(words.parse()?),
             "utf8" => Question::Utf8(words.bytes(alloc)?),
             "path_of" => Question::PathOf(words.bytes(alloc)?),
             "address_len" => Question::AddressLen(words.bytes(alloc)?),
@@ -118,19 +118,19 @@ impl Question {
                 room: words.up_to(MOST_DESCRIPTORS)?,
             },
             "sendmsg_control" => Question::SendmsgControl {
-                flags: words.number()?,
+                flags: words.parse()?,
                 control: words.bytes(alloc)?,
                 room: words.up_to(MOST_DESCRIPTORS)?,
             },
-            "scm_rights" => Question::ScmRights(words.number()?),
+            "scm_rights" => Question::ScmRights(words.parse()?),
             "scm_rights_count" => Question::ScmRightsCount {
                 header: header(words)?,
-                control_len: words.number()?,
+                control_len: words.parse()?,
             },
-            "how" => Question::How(words.number()?),
+            "how" => Question::How(words.parse()?),
             "recvmsg_capacity" => Question::RecvmsgCapacity {
-                flags: words.number()?,
-                control_len: words.number()?,
+                flags: words.parse()?,
+                control_len: words.parse()?,
             },
             _ => return Ok(None),
         }))
@@ -139,18 +139,24 @@ impl Question {
     /// The answer as text.
     pub fn answer(&self, alloc: Global) -> Result<String, AllocError> {
         match self {
-            Question::Align(len) => number(alloc, CmsgHdr::align(*len)),
-            Question::Len(len) => number(alloc, CmsgHdr::len(*len)),
-            Question::Space(len) => number(alloc, CmsgHdr::space(*len)),
-            Question::ScmRightsSpace(count) => number(alloc, CmsgHdr::scm_rights_space(*count)),
-            Question::Capacity(len) => number(alloc, Ok(syscall::scm_rights_capacity(*len))),
-            Question::Utf8(bytes) => number(alloc, Ok(u64::from(utf8::is_utf8(bytes)))),
+            Question::Align(len) => one_number(alloc, CmsgHdr::align(*len)),
+            Question::Len(len) => one_number(alloc, CmsgHdr::len(*len)),
+            Question::Space(len) => one_number(alloc, CmsgHdr::space(*len)),
+            Question::ScmRightsSpace(count) => one_number(alloc, CmsgHdr::scm_rights_space(*count)),
+            Question::Capacity(len) => one_number(alloc, Ok(syscall::scm_rights_capacity(*len))),
+            Question::Utf8(bytes) => one_number(alloc, Ok(u64::from(utf8::is_utf8(bytes)))),
             Question::PathOf(address) => reply::numbers(alloc, path_of(address)),
-            Question::AddressLen(address) => number(alloc, SockAddrUn::len(address)),
-            Question::IovecCount(header) => number(alloc, iovec_count(header)),
-            Question::ControlLen(header) => number(alloc, control_len(header)),
+            Question::AddressLen(address) => one_number(alloc, SockAddrUn::len(address)),
+            Question::IovecCount(header) => {
+                let count = MsgHdr::read(header).and_then(|header| header.iovec_count());
+                one_number(alloc, count)
+            }
+            Question::ControlLen(header) => {
+                let len = MsgHdr::read(header).and_then(|header| header.control_len());
+                one_number(alloc, len)
+            }
             Question::NewAddress { path, room } => new_address(alloc, path, *room),
-            Question::Encode { descriptors, room } => encode(alloc, descriptors, *room),
+            Question::Encode { descriptors, room } => encoded(alloc, descriptors, *room),
             Question::Parse { control, room } => parse(alloc, control, *room),
             Question::SendmsgControl {
                 flags,
@@ -163,11 +169,11 @@ impl Question {
                 control_len,
             } => {
                 let count = header.scm_rights_count(*control_len);
-                number(alloc, count.ok_or(Errno::EINVAL))
+                one_number(alloc, count.ok_or(Errno::EINVAL))
             }
-            Question::How(how) => number(alloc, direction(*how)),
+            Question::How(how) => one_number(alloc, direction(*how)),
             Question::RecvmsgCapacity { flags, control_len } => {
-                number(alloc, syscall::recvmsg_capacity(*flags, *control_len))
+                one_number(alloc, syscall::recvmsg_capacity(*flags, *control_len))
             }
         }
     }
@@ -175,21 +181,13 @@ impl Question {
 
 // ── Answers ──
 
-fn number(alloc: Global, answer: Result<u64, Errno>) -> Result<String, AllocError> {
+fn one_number(alloc: Global, answer: Result<u64, Errno>) -> Result<String, AllocError> {
     reply::numbers(alloc, answer.map(|value| [value]))
 }
 
 // The address's kind, which is 2, and the path's length.
 fn path_of(address: &[u8]) -> Result<[u64; 2], Errno> {
     Ok([2, SockAddrUn::path(address)?.len() as u64])
-}
-
-fn iovec_count(header: &[u8]) -> Result<u64, Errno> {
-    MsgHdr::read(header)?.iovec_count()
-}
-
-fn control_len(header: &[u8]) -> Result<u64, Errno> {
-    MsgHdr::read(header)?.control_len()
 }
 
 fn scm_rights(count: u64) -> Result<[u64; 3], Errno> {
@@ -217,7 +215,7 @@ fn new_address(alloc: Global, path: &[u8], room: usize) -> Result<String, AllocE
     reply::numbers_lent(alloc, refusal.map(|()| []), &address)
 }
 
-fn encode(alloc: Global, descriptors: &[i32], room: usize) -> Result<String, AllocError> {
+fn encoded(alloc: Global, descriptors: &[i32], room: usize) -> Result<String, AllocError> {
     let mut control = vec![in alloc; UNTOUCHED; room]?;
     let answer = syscall::encode_scm_rights(descriptors, &mut control);
     reply::numbers_lent(alloc, answer.map(|value| [value]), &control)

@@ -4,6 +4,7 @@ ghost use Rattle.script.specs.Limits.{IsWithinLimits};
 
 use std::alloc::{AllocError, Global};
 use std::iter::successors;
+use wording::dotted::Dotted;
 use wording::line::Words;
 use wording::text::LineError;
 use words::Handle;
@@ -25,7 +26,7 @@ impl Data {
         ensures { IfOk result (λ d. d.len ≤ 65600) }
     {
         Ok(Data {
-            seed: words.number()?,
+            seed: words.parse()?,
             len: words.up_to(MOST_BYTES)?,
         })
     }
@@ -48,7 +49,7 @@ impl Items {
         ensures { IfOk result (λ i. i.count ≤ 320) }
     {
         Ok(Items {
-            first: words.number()?,
+            first: words.parse()?,
             count: words.up_to(MOST_ITEMS)?,
         })
     }
@@ -106,7 +107,8 @@ pub enum Call {
 }
 
 fn handle(words: &mut Words<'_>) -> Result<Handle, LineError> {
-    Ok(Handle(words.handle()?.0))
+    let dotted: Dotted = words.parse()?;
+    Ok(Handle(dotted.0))
 }
 
 impl Call {
@@ -116,9 +118,9 @@ impl Call {
     {
         Ok(match name {
             "socket" => Call::Socket {
-                domain: words.number()?,
-                ty: words.number()?,
-                protocol: words.number()?,
+                domain: words.parse()?,
+                ty: words.parse()?,
+                protocol: words.parse()?,
             },
             "bind" => Call::Bind {
                 handle: handle(words)?,
@@ -126,7 +128,7 @@ impl Call {
             },
             "listen" => Call::Listen {
                 handle: handle(words)?,
-                backlog: words.number()?,
+                backlog: words.parse()?,
             },
             "accept" => Call::Accept(handle(words)?),
             "connect" => Call::Connect {
@@ -153,7 +155,7 @@ impl Call {
             },
             "shutdown" => Call::Shutdown {
                 handle: handle(words)?,
-                how: words.number()?,
+                how: words.parse()?,
             },
             "close" => Call::Close(handle(words)?),
             "readiness" => Call::Readiness(handle(words)?),

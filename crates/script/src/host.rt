@@ -34,7 +34,7 @@ pub struct Host {
     // the table's size, once one was made
     size: Option<Size>,
     // in the order in which they were given
-    held: Vec<u64>,
+    held: Vec<Handle>,
 }
 
 // What a call answered and delivered.
@@ -166,11 +166,11 @@ impl Host {
     // Keeps the socket that the call opened, and lets go the one that it closed.
     fn note(&mut self, call: &Call, accepted: Accepted) -> Result<(), AllocError> {
         if let Call::Close(handle) = call {
-            let closed = handle.0;
+            let closed = *handle;
             self.held.retain(|held| *held != closed);
         }
         if call.opens() && self.held.len() < MOST_HELD {
-            self.held.push(accepted.value)?;
+            self.held.push(Handle(accepted.value))?;
         }
         Ok(())
     }
@@ -245,9 +245,9 @@ impl Host {
                 &self.releases,
                 size.slots,
                 size.capacity,
-                Handle(*held),
+                *held,
             );
-            write!(text, " {}:{}", Dotted(*held), Letters(shown(answer)))?;
+            write!(text, " {}:{}", Dotted(held.0), Letters(shown(answer)))?;
         }
         Ok(())
     }

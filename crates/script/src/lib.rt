@@ -9,6 +9,8 @@ mod call;
 mod host;
 mod player;
 mod run_on;
+#[cfg(test)]
+mod tests;
 
 use player::{Player, Stop};
 use std::alloc::{AllocError, Global};

@@ -116,9 +116,9 @@ impl Player {
         let slots = words.up_to(MOST_SIZE)?;
         let capacity = words.up_to(MOST_SIZE)?;
         words.end()?;
-        if self.host.make(slots, capacity).is_err() {
-            return Err(LineError::Unreadable);
-        }
+        self.host
+            .make(slots, capacity)
+            .or(Err(LineError::Unreadable))?;
         self.tables = self.tables.saturating_add(1);
         Ok(())
     }
@@ -126,7 +126,7 @@ impl Player {
     // `word K V`: word K of the storage becomes V.
     fn word(&mut self, mut words: Words<'_>) -> Result<(), LineError> {
         let place = words.up_to(MOST_SIZE)?;
-        let value = words.number()?;
+        let value = words.parse()?;
         words.end()?;
         *self.host.word_mut(place).ok_or(LineError::Unreadable)? = value;
         Ok(())

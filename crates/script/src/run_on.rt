@@ -1,6 +1,6 @@
 // A call that its `=` follows with no space between: its last word, without its last byte, has to be
 // an argument, but is taken as it stands, up to the next space.
-// Stays: the programs do what they did on every input.
+// Stays: what may not change, since the programs do what they did on every input.
 ghost use Rattle.std.specs.Prelude.{◌<◌, ◌≤◌, IfOk, IfSome};
 ghost use Rattle.script.specs.Limits.{IsWithinLimits};
 
@@ -19,7 +19,7 @@ fn last_number(bytes: &[u8]) -> u64 {
     })
 }
 
-fn signed(word: &str, number: u64) -> i32 {
+fn last_signed(word: &str, number: u64) -> i32 {
     let size = u32::try_from(number).unwrap_or(0);
     if word.starts_with('-') {
         size.wrapping_neg().cast_signed()
@@ -79,7 +79,7 @@ impl Call {
             Call::Socket { domain, ty, .. } => Call::Socket {
                 domain,
                 ty,
-                protocol: signed(word, number),
+                protocol: last_signed(word, number),
             },
             Call::Bind { handle, name } => Call::Bind {
                 handle,
@@ -124,7 +124,7 @@ impl Call {
             },
             Call::Shutdown { handle, .. } => Call::Shutdown {
                 handle,
-                how: signed(word, number),
+                how: last_signed(word, number),
             },
             Call::Close(handle) => Call::Close(with_slot(handle, number)),
             Call::Readiness(handle) => Call::Readiness(with_slot(handle, number)),

@@ -1,5 +1,5 @@
 // A handle as a script names it: its generation, below 2^48, a dot, and its slot.
-use crate::text::{LineError, number};
+use crate::text::{LineError, parse};
 use std::fmt;
 use std::str::FromStr;
 
@@ -28,8 +28,8 @@ impl FromStr for Dotted {
 
     fn from_str(text: &str) -> Result<Dotted, LineError> {
         let (generation, slot) = text.split_once('.').ok_or(LineError::Unreadable)?;
-        let generation: u64 = number(generation)?;
-        let slot: u16 = number(slot)?;
+        let generation: u64 = parse(generation)?;
+        let slot: u16 = parse(slot)?;
         if generation < GENERATIONS {
             Ok(Dotted(generation * SLOTS + u64::from(slot)))
         } else {

@@ -3,5 +3,7 @@
 
 pub mod dotted;
 pub mod line;
+#[cfg(test)]
+mod tests;
 pub mod text;
 pub mod write;

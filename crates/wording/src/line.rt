@@ -1,12 +1,10 @@
 // Reading a line: its words, apart by one space, and what they are.
 ghost use Rattle.std.specs.Prelude.{◌≡◌, ◌⊎◌, ◌≤◌, ℕ, List, [], ◌∷◌, Ok, IfOk, IfErr, OnOk, OnErr, IsOk};
 ghost use Rattle.std.specs.Option.{option_copied};
-ghost use Rattle.wording.specs.Handles.{ReadsHandle};
 ghost use Rattle.wording.specs.Numbers.{AreBytesOf};
 ghost use Rattle.wording.specs.WordsOf.{words_of, words_left};
 ghost use Rattle.wording.specs.declared.text.LineError.TheVariants.{Unreadable};
 
-use crate::dotted::Dotted;
 use crate::text;
 use crate::text::LineError;
 use std::alloc::Global;
@@ -51,14 +49,14 @@ impl<'a> Words<'a> {
         }
     }
 
-    /// The next word as a number.
-    pub fn number<T: FromStr + Drop>(&mut self) -> Result<T, LineError>
+    /// The next word as a number or a handle.
+    pub fn parse<T: FromStr + Drop>(&mut self) -> Result<T, LineError>
     where
         T::Err: Drop,
         ensures ok { IfOk result (λ n. (w : List ℕ) × (self.old ≡ w ∷ self.new) × T.from_str_gives w (Ok n)) }
         ensures err { IfErr result (λ e. e ≡ Unreadable) }
     {
-        text::number(self.word()?)
+        text::parse(self.word()?)
     }
 
     /// The next word as a number up to `most`.
@@ -66,20 +64,12 @@ impl<'a> Words<'a> {
         ensures at_most { IfOk result (λ n. n ≤ most) }
         ensures err { IfErr result (λ e. e ≡ Unreadable) }
     {
-        let n: usize = self.number()?;
+        let n: usize = self.parse()?;
         if n <= most {
             Ok(n)
         } else {
             Err(LineError::Unreadable)
         }
-    }
-
-    /// The next word as a handle.
-    pub fn handle(&mut self) -> Result<Dotted, LineError>
-        ensures ok { IfOk result (λ h. (w : List ℕ) × (self.old ≡ w ∷ self.new) × ReadsHandle w (Ok h)) }
-        ensures err { IfErr result (λ e. e ≡ Unreadable) }
-    {
-        self.word()?.parse()
     }
 
     /// The next word as bytes.

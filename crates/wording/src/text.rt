@@ -1,4 +1,4 @@
-// Reading a word: the number or the bytes that it is.
+// Reading a word: the number, the handle or the bytes that it is.
 ghost use Rattle.std.specs.Prelude.{◌≡◌, ◌≢◌, ◌⊎◌, ◌≤◌, length, slice_index, Ok, Err, IfOk, IfErr, OnOk};
 ghost use Rattle.wording.specs.declared.text.LineError.TheVariants.{Unreadable, OutOfMemory};
 ghost use Rattle.wording.specs.Numbers.{Reads, AreBytesOf, IsNoBytes};
@@ -30,19 +30,19 @@ impl<T: Drop> From<AllocFailed<T>> for LineError {
     }
 }
 
-/// The number that a word is; none has a `+`.
-pub fn number<T: FromStr + Drop>(word: &str) -> Result<T, LineError>
+/// What a word is as a number or a handle; no number has a `+`.
+pub fn parse<T: FromStr + Drop>(word: &str) -> Result<T, LineError>
 where
     T::Err: Drop,
     ensures read { IfOk result (λ n. T.from_str_gives word.now (Ok n)) }
     ensures plus { slice_index word.now 0 ≡ 43 → result ≡ Err Unreadable }
-    ensures number { slice_index word.now 0 ≢ 43 → Reads T.from_str_gives word.now result }
+    ensures value { slice_index word.now 0 ≢ 43 → Reads T.from_str_gives word.now result }
 {
     if word.starts_with('+') {
         return Err(LineError::Unreadable);
     }
     match word.parse() {
-        Ok(number) => Ok(number),
+        Ok(value) => Ok(value),
         Err(_) => Err(LineError::Unreadable),
     }
 }
