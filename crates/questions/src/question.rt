@@ -1,5 +1,5 @@
 // A question, read from the words of a line, and its answer.
-ghost use Rattle.std.specs.Prelude.{IfOk, IfSome};
+ghost use Rattle.std.specs.Prelude.{◌≡◌, IfOk, IfSome, IfNone};
 ghost use Rattle.questions.specs.Limits.{IsWithinLimits};
 
 use crate::reply;
@@ -92,7 +92,8 @@ impl Question {
         name: &str,
         words: &mut Words<'_>,
     ) -> Result<Option<Question>, LineError>
-        ensures { IfOk result (λ found. IfSome found IsWithinLimits) }
+        ensures some { IfOk result (λ found. IfSome found IsWithinLimits) }
+        ensures none { IfOk result (λ found. IfNone found (words.new ≡ words.old)) }
     {
         Ok(Some(match name {
             "align" => Question::Align(words.parse()?),
