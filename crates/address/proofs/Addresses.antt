@@ -166,7 +166,7 @@ module _ (p a : List ℕ) where
             let e : 2 + (length p + (108 - n)) ≡ 110 = omega arith in
             drop-drop (108 - n) (length p) d ∙ drop-drop (length p + (108 - n)) 2 a ∙ ap (λ (m : ℕ). drop m a) e
 
-        accepts : new_of p a ≡ (Ok tt)
+        accepts : new_of p a ≡ Ok tt
         unfolding new_of
         accepts = rw (le-ltb (length a) 110 room, le-ltb 107 (length p) (omega arith), ← test, not-false b good)
 

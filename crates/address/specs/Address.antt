@@ -35,7 +35,7 @@ path_in (path p) = p
 path_in (refused e) = []
 
 unfoldable pub refusal_in : Address → Result Unit Errno
-refusal_in (path p) = (Ok tt)
+refusal_in (path p) = Ok tt
 refusal_in (refused e) = Err e
 
 -- ── Writing ──
@@ -53,7 +53,7 @@ unfoldable pub written : List ℕ → List ℕ → List ℕ
 written p a = 1 ∷ 0 ∷ p ++ replicate (108 - length p) 0 ++ drop 110 a
 
 unfoldable pub after_new : Result Unit Errno → List ℕ → List ℕ → List ℕ
-after_new (Ok tt) p a = written p a
+after_new (Ok _) p a = written p a
 after_new (Err e) p a = a
 
 -- the writer's answer, and every byte of the lent address after it

@@ -177,7 +177,7 @@ unfolding make_no
 can_make n c s r f =
     record {
       before = s;
-      verdict = (Ok tt);
+      verdict = Ok tt;
       makes = make_done n c s.words s.bytes s.tokens true (sym r) refl true (sym f) (fresh_words n c s.words) refl refl;
       accepted = rw (r, f);
     }

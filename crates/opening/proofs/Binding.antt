@@ -142,7 +142,7 @@ module _ (n c : ℕ) (s : Store) (l : Lists) (h : ℕ) (m : List ℕ) (r : Answe
           (λ z. refused_done _ 2 n c s l r (no_name n c s h mine _ m z) (λ y. omega arith))
           (λ some g. refused_done _ 17 n c s l r (long_name n c s h mine _ m some g) (λ y. omega arith))
 
-      module _ (ok : q ≡ (Ok tt)) (i : ℕ) (ei : i ≡ slot_of h) (x : Slot) (ex : x ≡ loaded_at s.words i) where
+      module _ (ok : q ≡ Ok tt) (i : ℕ) (ei : i ≡ slot_of h) (x : Slot) (ex : x ≡ loaded_at s.words i) where
         at_state : (σ : State) → x.state ≡ σ → Called n c s h i x.generation σ
         at_state σ es = called n c s h b i x σ eb lv ei ex es
 

@@ -41,7 +41,7 @@ use Rattle.promise.proofs.Free.{Free, none_free, free_found}
 
 -- what socket does when its arguments are answered
 unfoldable after_arguments : Table → Result Unit Errno → Outcome → Outcome
-after_arguments t (Ok tt) o = o
+after_arguments t (Ok _) o = o
 after_arguments t (Err e) o = refuse t (number_of e)
 
 -- and then
@@ -97,7 +97,7 @@ module _ (n c : ℕ) (s : Store) (l : Lists) (d ty p d' ty' p' : ℤ) (v : Resul
   socket_refused x e er =
       refused_done _ (number_of x) n c s l r (arguments_first (view n c s) d ty p ∙ ap (λ (y : Result Unit Errno). after_arguments (view n c s) y (slot_first (view n c s))) (sym ev ∙ e)) (number_some x) er
 
-  module _ (ok : v ≡ (Ok tt)) (o : Option ℕ) (eo : o ≡ lowest n (λ j. free_cell (cell_at s.words j))) where
+  module _ (ok : v ≡ Ok tt) (o : Option ℕ) (eo : o ≡ lowest n (λ j. free_cell (cell_at s.words j))) where
     arguments_passed : run (view n c s) (Call.Socket d ty p) ≡ slot_first (view n c s)
     unfolding after_arguments
     arguments_passed = arguments_first (view n c s) d ty p ∙ ap (λ (x : Result Unit Errno). after_arguments (view n c s) x (slot_first (view n c s))) (sym ev ∙ ok)

@@ -59,7 +59,7 @@ module _ (n c : ℕ) (s : Store) (ls : Lists) (h : ℕ) (m : List ℕ) (r : Answ
         (λ z. refused_done _ 2 n c s ls r (no_name n c s h (live n c s h b eb d) _ m z) (λ y. omega arith))
         (λ some g. refused_done _ 17 n c s ls r (long_name n c s h (live n c s h b eb d) _ m some g) (λ y. omega arith))
 
-    module _ (q : Result Unit Errno) (eq : q ≡ name_refusal m) (ok : q ≡ (Ok tt)) (i : ℕ) (slot : Slot) (ei : i ≡ slot_of h) (es : slot ≡ loaded_at s.words i) where
+    module _ (q : Result Unit Errno) (eq : q ≡ name_refusal m) (ok : q ≡ Ok tt) (i : ℕ) (slot : Slot) (ei : i ≡ slot_of h) (es : slot ≡ loaded_at s.words i) where
       own : (σ : State) → slot.state ≡ σ → state_of (cell_at s.words (slot_of h)) ≡ σ
       own σ e = sym (loaded_state s.words ei es) ∙ e
 
@@ -87,7 +87,7 @@ module _ (n c : ℕ) (s : Store) (ls : Lists) (h : ℕ) (m : List ℕ) (r : Answ
       connect_connected k e er = refused_done _ 5 n c s ls r (by_state (Connected k) e) (λ z. omega arith) er
 
 pub may_reach : (n : ℕ) (w : List ℕ) (h : ℕ) (m : List ℕ) (b : Bool) → b ≡ live_in n w h → not b ≡ false → (i : ℕ) (slot : Slot) → i ≡ slot_of h → slot ≡ loaded_at w i → slot.state ≡ Unbound
-    → (q : Result Unit Errno) → q ≡ name_refusal m → q ≡ (Ok tt) → Caller n w h m
+    → (q : Result Unit Errno) → q ≡ name_refusal m → q ≡ Ok tt → Caller n w h m
 may_reach n w h m b eb d i slot ei es e q eq ok =
     let z = name_accepted m q eq ok in
     record { lives = sym eb ∙ not-false b d; unbound = sym (loaded_state w ei es) ∙ e; some_name = z.0; short_name = z.1 }

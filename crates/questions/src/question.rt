@@ -186,7 +186,7 @@ fn one_number(alloc: Global, answer: Result<u64, Errno>) -> Result<String, Alloc
     reply::numbers(alloc, answer.map(|value| [value]))
 }
 
-// The address's kind, which is 2, and the path's length.
+// Where the path starts, which is behind the family, and its length.
 fn path_of(address: &[u8]) -> Result<[u64; 2], Errno> {
     Ok([2, SockAddrUn::path(address)?.len() as u64])
 }
@@ -201,11 +201,7 @@ fn scm_rights(count: u64) -> Result<[u64; 3], Errno> {
 }
 
 fn direction(how: i32) -> Result<u64, Errno> {
-    Ok(match ShutdownHow::try_from(how)? {
-        ShutdownHow::Read => 0,
-        ShutdownHow::Write => 1,
-        ShutdownHow::Both => 2,
-    })
+    Ok(ShutdownHow::try_from(how)? as u64)
 }
 
 // ── Those that are lent something ──

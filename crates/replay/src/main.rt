@@ -5,5 +5,5 @@
 use std::io;
 
 fn main(rt: HostRuntime) -> io::Result<()> {
-    script::run(&rt, false)
+    script::replay(&rt, false)
 }

@@ -22,7 +22,7 @@ const TOO_MANY_BYTES: u64 = 1_048_576;
 
 /// Runs the script that stands on standard input. Its comments are printed where `aloud`, and at the
 /// end the totals.
-pub fn run(rt: &(impl Input + Print + AllocGlobal), aloud: bool) -> io::Result<()> {
+pub fn replay(rt: &(impl Input + Print + AllocGlobal), aloud: bool) -> io::Result<()> {
     match read(rt.alloc(), rt.reader())? {
         Some(script) => play(rt, rt.alloc(), &script, aloud),
         None => println!(rt; "the script has more than 1,048,575 bytes"),

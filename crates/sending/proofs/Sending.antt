@@ -304,7 +304,7 @@ module _ {n c : ℕ} {w b t : List ℕ} {u v : ℕ} (a : Admitted n c (lent w b 
         pub sends_refused : (l : Lists) (r : Answer) (x : Errno) → d ≡ Err x → r ≡ refused_with (number_of x) → Sends n c (lent w b t) (lent w b t) p buf its l l r
         sends_refused l r x ex er = refused_at n c w b t l buf its (known a) p o con at_slot d ed r x ex er
 
-        module _ (yes : d ≡ (Ok tt)) where
+        module _ (yes : d ≡ Ok tt) where
           pub push_may : MayPush c con.inbox buf its
           push_may = sym ed ∙ ap refusal_of yes
 

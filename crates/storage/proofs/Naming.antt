@@ -24,7 +24,7 @@ name_refused P m r e er ee none long = go (eqb (length m) 0) (ltb 255 (length m)
     go false true p q z = subst P (ap refusal_of z) (long (eqb-false _ 0 p) (ltb-true 255 _ q))
     go false false p q z = absurd (cc)
 
-pub name_accepted : (m : List ℕ) (r : Result Unit Errno) → r ≡ name_refusal m → r ≡ (Ok tt) → (length m ≢ 0) × (length m ≤ 255)
+pub name_accepted : (m : List ℕ) (r : Result Unit Errno) → r ≡ name_refusal m → r ≡ Ok tt → (length m ≢ 0) × (length m ≤ 255)
 unfolding name_refusal
 name_accepted m r er ee = go (eqb (length m) 0) (ltb 255 (length m)) refl refl (sym er ∙ ee)
   where

@@ -50,7 +50,7 @@ module _ (n c : ℕ) (s : Store) (l : Lists) (v : Result Unit Errno) (ev : refus
     refused_fills call buf items = rw (is_refused call) (record { buffer = refl; item_list = refl })
 
   -- accepted
-  module _ (ea : v ≡ (Ok tt)) where
+  module _ (ea : v ≡ Ok tt) where
     is_admitted : admits n c s (length l.wakes) (length l.releases) ≡ 0
     is_admitted = sym ev ∙ ap refusal_of ea
 
@@ -74,5 +74,5 @@ module _ (n c : ℕ) (s : Store) (l : Lists) (v : Result Unit Errno) (ev : refus
     then_shutdown h how how' s' l' r e d = then_runs (Call.Shutdown h how) s' l' r (rw (sym e) d)
 
 -- what the call may ask then
-pub enters : {n c : ℕ} {s : Store} {wakes releases : ℕ} → (v : Result Unit Errno) → refusal_of v ≡ admits n c s wakes releases → v ≡ (Ok tt) → Admitted n c s wakes releases
+pub enters : {n c : ℕ} {s : Store} {wakes releases : ℕ} → (v : Result Unit Errno) → refusal_of v ≡ admits n c s wakes releases → v ≡ Ok tt → Admitted n c s wakes releases
 enters {n} {c} {s} {wakes} {releases} v ev ea = admitted n c s wakes releases (sym ev ∙ ap refusal_of ea)
