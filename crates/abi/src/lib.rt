@@ -65,6 +65,7 @@ pub struct MsgHdr {
 impl MsgHdr {
     pub const BYTES: usize = 56;
 
+    // Stays: what may not change, since docs/TRACE.md names it.
     #[tactic(auto, unfolding(crate::specs::Header::message_of))]
     pub fn read(hdr: &[u8]) -> Result<MsgHdr, Errno>
         ensures { result ≡ message_of hdr.now }

@@ -1,5 +1,5 @@
 // listen and accept, on a table that has been admitted.
-// Stays: the lent lists are parameters of their own, since each call writes some and only reads others, as C's pointers say: a struct of all would ask to write every one.
+// Stays: what may not change. A call writes some of the lent lists and only reads others (`.now` in its clauses): a struct of all five would ask to write every one.
 #![tactic(auto)]
 
 ghost use Rattle.std.specs.Prelude.{length};
@@ -9,7 +9,7 @@ ghost use Rattle.table.specs.Admission.{Admitted};
 ghost use Rattle.promise.specs.Answers.{told};
 ghost use Rattle.promise.specs.Promise.{lists, Runs};
 
-use promise::Accepted;
+use promise::{Accepted, REGISTRY};
 use storage::{Connection, Listener, Slot, State, handles, queues};
 use words::{Errno, Handle};
 
@@ -55,7 +55,7 @@ pub fn listen_admitted(
             });
             storage::store(words, i, Slot { state, ..slot });
             if listener.backlog < backlog {
-                wakes[0] = 0;
+                wakes[0] = REGISTRY;
                 Ok(Accepted::new(0, 1))
             } else {
                 Ok(Accepted::new(0, 0))
@@ -109,6 +109,6 @@ pub fn accept_admitted(
         ..connection
     });
     storage::store(words, j, Slot { state, ..pending });
-    wakes[0] = 0;
+    wakes[0] = REGISTRY;
     Ok(Accepted::new(server.0, 1))
 }

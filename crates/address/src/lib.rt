@@ -70,6 +70,7 @@ impl SockAddrUn {
     }
 
     // The same part, empty where the address is refused.
+    // Stays: what may not change, since it could not fail. `path` is today's form of it.
     #[tactic(auto, unfolding(crate::specs::Address::path_in))]
     pub fn path_of(addr: &[u8]) -> &[u8]
         ensures { result.now ≡ path_in (address_of addr.now) }

@@ -1,6 +1,7 @@
 // What `make bench` times by itself, in a form that needs nothing of its caller: an inbox's push and
 // take, and the check of a table. The five numbers of an inbox stand in a lent list. Sizes that do not
 // fit are refused with 18, an inbox that is not well with 19.
+// Stays: the C interface, lists of their own, an inbox as numbers, and a flag for how it is taken from.
 #![tactic(auto)]
 
 ghost use Rattle.std.specs.Prelude.{◌≡◌, ◌≤◌, length, IfOk, OnOk};
@@ -13,6 +14,7 @@ ghost use Rattle.bench_exports.specs.Numbers.{numbers_in, listed};
 use inbox::{AttachedItems, Inbox};
 use words::Errno;
 
+// Stays: the C interface, a struct by value: its number, and the rest 0 where that is not 0.
 #[repr(C)]
 #[derive(Clone, Copy, Default)]
 pub struct BenchAnswer {
@@ -21,6 +23,18 @@ pub struct BenchAnswer {
     pub moved: u64,
     pub items: u64,
     pub released: u64,
+}
+
+impl From<Result<BenchAnswer, Errno>> for BenchAnswer {
+    fn from(answer: Result<BenchAnswer, Errno>) -> BenchAnswer {
+        match answer {
+            Ok(answer) => answer,
+            Err(no) => BenchAnswer {
+                refusal: no.number(),
+                ..BenchAnswer::default()
+            },
+        }
+    }
 }
 
 #[unsafe(no_mangle)]
@@ -32,19 +46,25 @@ pub extern "C" fn bench_push(
     buf: &[u8],
     items: &[u32],
 ) -> BenchAnswer {
-    let inbox = match load(numbers, ring, places, tokens) {
-        Ok(inbox) => inbox,
-        Err(no) => return refused(no),
-    };
-    if let Err(no) = inbox.push_refusal(ring.len(), buf.len(), items.len()) {
-        return refused(no);
-    }
+    push(numbers, ring, places, tokens, buf, items).into()
+}
+
+fn push(
+    numbers: &mut [u64],
+    ring: &mut [u8],
+    places: &mut [u64],
+    tokens: &mut [u32],
+    buf: &[u8],
+    items: &[u32],
+) -> Result<BenchAnswer, Errno> {
+    let inbox = load(numbers, ring, places, tokens)?;
+    inbox.push_refusal(ring.len(), buf.len(), items.len())?;
     let pushed = inbox.push(ring, places, tokens, buf, items);
     store(numbers, pushed.inbox);
-    BenchAnswer {
+    Ok(BenchAnswer {
         moved: pushed.moved as u64,
         ..BenchAnswer::default()
-    }
+    })
 }
 
 #[unsafe(no_mangle)]
@@ -58,27 +78,37 @@ pub extern "C" fn bench_take(
     items: &mut [u32],
     releases: &mut [u32],
 ) -> BenchAnswer {
-    if releases.len() < 256 {
-        return refused(Errno::SHORT);
-    }
-    let inbox = match load(numbers, ring, places, tokens) {
-        Ok(inbox) => inbox,
-        Err(no) => return refused(no),
-    };
     let policy = if hand_over {
         AttachedItems::Take
     } else {
         AttachedItems::Drop
     };
+    take(numbers, ring, places, tokens, buf, policy, items, releases).into()
+}
+
+fn take(
+    numbers: &mut [u64],
+    ring: &[u8],
+    places: &[u64],
+    tokens: &[u32],
+    buf: &mut [u8],
+    policy: AttachedItems,
+    items: &mut [u32],
+    releases: &mut [u32],
+) -> Result<BenchAnswer, Errno> {
+    if releases.len() < 256 {
+        return Err(Errno::SHORT);
+    }
+    let inbox = load(numbers, ring, places, tokens)?;
     let taken = inbox.take(ring, places, tokens, buf, policy, items, releases);
     store(numbers, taken.inbox);
-    BenchAnswer {
+    Ok(BenchAnswer {
         refusal: 0,
         flags: taken.flags,
         moved: taken.moved as u64,
         items: taken.items as u64,
         released: taken.released as u64,
-    }
+    })
 }
 
 // The check of a whole table that every call makes, by itself: 0, or the number that a call answers.
@@ -104,13 +134,6 @@ fn checked(words: &[u64], bytes: &[u8], n: usize, c: usize) -> Result<(), Errno>
         return Err(Errno::DAMAGED);
     }
     Ok(())
-}
-
-fn refused(no: Errno) -> BenchAnswer {
-    BenchAnswer {
-        refusal: no.number(),
-        ..BenchAnswer::default()
-    }
 }
 
 // The inbox of the five numbers, where it is well and all lists have their sizes.

@@ -172,13 +172,7 @@ fn put<T: Copy + Drop>(list: &mut [T], at: usize, value: T) {
 fn connection(peer: u8) -> Connection {
     Connection {
         peer: Handle(STEP + u64::from(peer)),
-        inbox: Inbox {
-            head: 0,
-            written_total: 0,
-            read_total: 0,
-            first: 0,
-            items: 0,
-        },
+        inbox: Inbox::new(),
         inbox_closed: false,
         outbox_closed: false,
         waits: 0,

@@ -1,5 +1,5 @@
 // read and recvmsg, on a table that has been admitted.
-// Stays: the lent lists are parameters of their own, since each call writes some and only reads others, as C's pointers say: a struct of all would ask to write every one.
+// Stays: what may not change. A call writes some of the lent lists and only reads others (`.now` in its clauses): a struct of all five would ask to write every one.
 #![tactic(auto)]
 
 ghost use Rattle.std.specs.Prelude.{◌≡◌, true, [], ◌<◌, length};
@@ -141,6 +141,7 @@ fn nothing_queued(inbox_closed: bool, peer_open: bool) -> Result<Accepted, Errno
     Ok(Accepted::new(0, 0))
 }
 
+// Stays: no plainer without `on`, since `Wakes` speaks of both cases at once.
 // Puts `h` into the wake list where it is to be woken; how many that makes.
 fn wake(wakes: &mut [u64], h: Handle, on: bool) -> u64
     requires { 0 < length wakes.old }

@@ -7,13 +7,14 @@ ghost use Rattle.abi.specs.Size.{align_of, len_of, space_of, rights_space_of, ri
 ghost use Rattle.abi.specs.Shutdown.{how_of};
 ghost use Rattle.syscall.specs.Control.{capacity_of};
 ghost use Rattle.syscall.specs.Promise.{Parsed, Encoded, SendParsed, recv_capacity_of};
-ghost use Rattle.eidrovang.specs.Numbers.{numbers, Shown, header_numbers, asked, how_number, direction_number, count_number, header_of, Told, Answered};
+ghost use Rattle.eidrovang.specs.Numbers.{numbers, Shown, header_numbers, asked, how_number, count_number, header_of, Told, Answered};
 
 use abi::{CmsgHdr, MsgHdr, ShutdownHow};
 use address::SockAddrUn;
 use words::Errno;
 
 // 01's number, and the value where it is 0.
+// Stays: the C interface, structs by value, this and the two after it.
 #[repr(C)]
 #[derive(Clone, Copy)]
 pub struct EidNumber {
@@ -65,6 +66,7 @@ pub extern "C" fn eid_address_len(addr: &[u8]) -> EidNumber
 pub extern "C" fn eid_address_path(addr: &[u8]) -> EidPath
     ensures { Shown addr.now result }
 {
+    // Stays: the one place that makes an `EidPath`; a `From` is no plainer.
     match SockAddrUn::path(addr) {
         Ok(path) => EidPath {
             refusal: 0,

@@ -1,5 +1,5 @@
 // close, on a table that has been admitted.
-// Stays: the lent lists are parameters of their own, since each call writes some and only reads others, as C's pointers say: a struct of all would ask to write every one.
+// Stays: what may not change. A call writes some of the lent lists and only reads others (`.now` in its clauses): a struct of all five would ask to write every one.
 #![tactic(auto)]
 
 ghost use Rattle.std.specs.Prelude.{◌≡◌, true, ◌+◌, ◌*◌, ◌≤◌, ◌<◌, length};
@@ -15,12 +15,9 @@ ghost use Rattle.storage.specs.Finding.{live_in};
 ghost use Rattle.storage.specs.declared.State.TheVariants.{Closed, Listening};
 ghost use Rattle.ending.specs.Leaving.{Ends, Fits, Serves, connection_in};
 
-use promise::Accepted;
+use promise::{Accepted, REGISTRY};
 use storage::{Connection, Listener, Slot, State, handles, inboxes, queues};
 use words::{Errno, Handle};
-
-// The registry, in the wake list.
-const REGISTRY: u64 = 0;
 
 // How far the wake list and the release list are filled.
 #[derive(Clone, Copy, Default)]

@@ -23,3 +23,7 @@ pub record Well (c : ℕ) (places : List ℕ) (q : Inbox) : Type 0 where
 -- the items lie in their rings of 256
 abbrev pub ItemsFit : Inbox → Type 0
 ItemsFit q = (q.first < 256) × (q.items ≤ 256)
+
+-- and the bytes in theirs of c
+abbrev pub AllFit : ℕ → Inbox → Type 0
+AllFit c q = (q.head < c) × (count q ≤ c) × ItemsFit q

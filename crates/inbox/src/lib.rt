@@ -1,13 +1,14 @@
 // One socket's bytes and attached items: the Rust's `Inbox`, over rings that are lent to it. The
 // bytes lie in a ring of their own, whose length is the capacity; each item has an entry in two
 // rings of 256: its token, and the stream offset of the byte that carries it.
+// Stays: what may not change. A ring is a slice, and the length that it must have a clause: `&[u64; 256]` would ask more of callers.
 #![tactic(auto)]
 
 ghost use Rattle.std.specs.Prelude.{◌≡◌, ◌+◌, ◌-◌, ◌<◌, ◌≤◌, length, drop, slice_index};
 ghost use Rattle.ring.specs.Ring.{place_of, queued};
 ghost use Rattle.words.specs.Numbers.{refusal_of};
 ghost use Rattle.inbox.specs.View.{dist, count, distances, front, nearest};
-ghost use Rattle.inbox.specs.Well.{rises, is_well, Well, ItemsFit};
+ghost use Rattle.inbox.specs.Well.{rises, is_well, Well, ItemsFit, AllFit};
 ghost use Rattle.inbox.specs.Promise.{none, push_no, MayPush, Pushes, policy_of, handed_of, flags_for, Hands, move_on, Takes, Discards};
 
 use words::Errno;
@@ -16,6 +17,7 @@ use words::Errno;
 pub const MAX_PENDING_ATTACHED: usize = 256;
 
 // What a take does with the items attached to its first byte.
+// Stays: a closure is no plainer: `policy_of` tells the two ways apart in two places.
 #[derive(Clone, Copy)]
 pub enum AttachedItems {
     Take,
@@ -66,7 +68,7 @@ pub struct Taken {
     pub moved: usize,
     pub items: usize,
     pub released: usize,
-    // Stays: the C interface, a recvmsg's flags.
+    // Stays: what may not change. C's flags of a recvmsg, which `Takes` gives as a number.
     pub flags: u32,
     pub inbox: Inbox,
 }
@@ -218,9 +220,9 @@ impl Inbox {
     // ── discard ──
 
     // Drops all bytes of an inbox of `c`; all items go to `releases`, from `at` on.
+    // Stays: `&mut releases[at..]` is no plainer, since `Discards` tells the whole list.
     pub fn discard(self, c: usize, tokens: &[u32], releases: &mut [u32], at: usize) -> Discarded
-        requires inbox_in { (self.head < c) × (count self ≤ c) × (c ≤ 65536) }
-        requires items_in { ItemsFit self }
+        requires inbox_in { AllFit c self × (c ≤ 65536) }
         requires lists_room { (length tokens.now ≡ 256) × (at + self.items ≤ length releases.old) }
         ensures { Discards c tokens.now releases.old releases.new at self result }
     {
@@ -281,6 +283,7 @@ impl Entries<'_> {
     }
 
     // How far it is to the byte that carries the item `g`, or to the end where there is none.
+    // Stays: an Option is no plainer, since the end is as far as a take goes.
     fn reach(&self, g: usize) -> usize
         ensures { result ≡ nearest (count self.now.inbox) (drop g (distances self.now.inbox self.now.places.now)) }
     {

@@ -26,6 +26,7 @@ pub trait LittleEndian<const N: usize>: Copy {
     ghost same_bits: { (n : ℕ) → n < 256 ^ N → bits (number n) ≡ n };
 }
 
+// Stays: a place as a number. A part of N bytes, cut out by each caller, is no plainer, since the cut asks the same.
 pub fn get<T: LittleEndian<N>, const N: usize>(s: &[u8], at: usize) -> T
     requires { at + N ≤ length s.now }
     ensures { result ≡ T.number (le N s.now at) }

@@ -1,5 +1,5 @@
 // connect, on a table that has been admitted.
-// Stays: the lent lists are parameters of their own, since each call writes some and only reads others, as C's pointers say: a struct of all would ask to write every one.
+// Stays: what may not change. A call writes some of the lent lists and only reads others (`.now` in its clauses): a struct of all five would ask to write every one.
 #![tactic(auto)]
 
 ghost use Rattle.std.specs.Prelude.{◌≡◌, ◌+◌, ◌*◌, ◌≤◌, ◌<◌, length};

@@ -1,11 +1,10 @@
 -- What the parts of a call ask of an admitted table.
-use mathlib.Core.Path.{◌≡◌, refl, sym, ap, ◌∙◌}
+use mathlib.Core.Path.{◌≡◌, refl, sym, ap}
 use mathlib.Core.Bool.{Bool, true, false, not}
 use mathlib.Core.List.{List}
 use Prim.Native.Nat.{ℕ, ◌+◌, ◌*◌, ◌^◌, ◌≤◌, ◌<◌}
 use native.Mathlib.Omega.{arith}
 use lib.ListN.{length}
-use borrow.Author.Tests.{not-false}
 use Rattle.storage.specs.Cells.{cell_at}
 use Rattle.storage.specs.Rows.{Store, lent}
 use Rattle.rules.specs.Table.{slot_of}
@@ -27,9 +26,6 @@ some_wake a = let z = a.wake_list in omega arith
 
 -- of the slot for a new socket
 module _ {n c : ℕ} {w b t : List ℕ} {x y : ℕ} (a : Admitted n c (lent w b t) x y) (i : ℕ) (e : i ≡ least n (λ j. free_cell (cell_at w j))) (ne : i ≡ n → ⊥) where
-  pub free_in : 8 + 16 * i + 16 ≤ length w
-  free_in = slot_in a i (free_found n c (lent w b t) i e ne).within
-
   module _ (s : Slot) (es : s ≡ loaded_at w i) where
     pub next_fits : s.generation + 1 < 2 ^ 64
     next_fits = let z = (free_found n c (lent w b t) i e ne).young in let y = ap (λ (q : Slot). q.generation) es in omega arith
@@ -49,7 +45,3 @@ live-in {n} {c} {w} {b} {t} a h r e d j ej = let l = (live n c (lent w b t) h r 
 
 pub own_in : {n c : ℕ} {w b t : List ℕ} {x y : ℕ} → Admitted n c (lent w b t) x y → (h : ℕ) → live_in n w h ≡ true → (j : ℕ) → j ≡ slot_of h → 8 + 16 * j + 16 ≤ length w
 own_in a h e j ej = live-in a h true (sym e) refl j ej
-
--- a call from the state on
-pub live_asked : {n c : ℕ} {w b t : List ℕ} {x y : ℕ} → Admitted n c (lent w b t) x y → (h : ℕ) (r : Bool) → r ≡ live_in n w h → not r ≡ false → Admitted n c (lent w b t) x y × (live_in n w h ≡ true)
-live_asked a h r e d = (a, sym e ∙ not-false r d)

@@ -6,8 +6,12 @@ ghost use Rattle.promise.specs.Answers.{told, accepted_with, released_with};
 
 use words::Errno;
 
+// The registry, in the wake list.
+pub const REGISTRY: u64 = 0;
+
 // What an accepted call answers: recvmsg's flags, the value, and how many entries are filled of the
 // item list, the wake list and the release list.
+// Stays: what may not change: `told` gives C these numbers, the flags too.
 #[derive(Clone, Copy, Debug, Default, PartialEq, Eq)]
 pub struct Accepted {
     pub flags: u32,
@@ -18,6 +22,7 @@ pub struct Accepted {
 }
 
 // The same for C, with 01's number (0: accepted); of a refusal all but the number is 0.
+// Stays: the C interface, a struct by value: its number, and the rest 0 where that is not 0.
 #[repr(C)]
 #[derive(Clone, Copy, Debug, Default, PartialEq, Eq)]
 pub struct Answer {

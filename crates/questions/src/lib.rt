@@ -4,3 +4,5 @@
 
 pub mod question;
 mod reply;
+#[cfg(test)]
+mod tests;

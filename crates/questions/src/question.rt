@@ -1,5 +1,7 @@
 // A question, read from the words of a line, and its answer.
-ghost use Rattle.std.specs.Prelude.{◌≡◌, IfOk, IfSome, IfNone};
+ghost use Rattle.std.specs.Prelude.{◌≡◌, IfOk, IfSome, IfNone, string_bytes};
+ghost use Rattle.abi.specs.Shutdown.{how_of};
+ghost use Rattle.questions.specs.Answers.{number_text, direction_of, one_answer};
 ghost use Rattle.questions.specs.Limits.{IsWithinLimits};
 
 use crate::reply;
@@ -138,7 +140,9 @@ impl Question {
     }
 
     /// The answer as text.
-    pub fn answer(&self, alloc: Global) -> Result<String, AllocError> {
+    pub fn answer(&self, alloc: Global) -> Result<String, AllocError>
+        ensures number { IfOk result (λ s. IfSome (one_answer self.now) (λ answer. string_bytes s ≡ number_text answer)) }
+    {
         match self {
             Question::Align(len) => one_number(alloc, CmsgHdr::align(*len)),
             Question::Len(len) => one_number(alloc, CmsgHdr::len(*len)),
@@ -182,8 +186,10 @@ impl Question {
 
 // ── Answers ──
 
-fn one_number(alloc: Global, answer: Result<u64, Errno>) -> Result<String, AllocError> {
-    reply::numbers(alloc, answer.map(|value| [value]))
+fn one_number(alloc: Global, answer: Result<u64, Errno>) -> Result<String, AllocError>
+    ensures { IfOk result (λ s. string_bytes s ≡ number_text answer) }
+{
+    format!(in alloc; "{} {}", words::refusal(answer), words::value(answer))
 }
 
 // Where the path starts, which is behind the family, and its length.
@@ -200,7 +206,9 @@ fn scm_rights(count: u64) -> Result<[u64; 3], Errno> {
     ])
 }
 
-fn direction(how: i32) -> Result<u64, Errno> {
+fn direction(how: i32) -> Result<u64, Errno>
+    ensures { result ≡ direction_of (how_of how) }
+{
     Ok(ShutdownHow::try_from(how)? as u64)
 }
 

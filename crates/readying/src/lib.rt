@@ -1,5 +1,5 @@
 // readiness, on a table that has been admitted.
-// Stays: the lent lists are parameters of their own, as in the calls that write some and only read others, as C's pointers say: a struct of all would ask to write every one.
+// Stays: the lent lists are parameters, as in the other eleven calls. A struct for the one that writes none of them is no plainer.
 #![tactic(auto)]
 
 ghost use Rattle.std.specs.Prelude.{◌≡◌, length};
@@ -16,6 +16,7 @@ use storage::{Connection, State, handles};
 use words::{Errno, Handle};
 
 // What a socket is ready for, as C has it.
+// Stays: the C interface: `ready_in` adds these numbers.
 const READABLE: u64 = 1;
 
 const WRITABLE: u64 = 2;

@@ -1,6 +1,7 @@
 // A queue that goes round in its own lent slice: the slice is the ring. What is queued starts at
 // `head`; elements move in at most two straight runs, to the ring's end and from its start. The
 // laws are stated over lists of any elements.
+// Stays: what may not change. `read` only reads the slice: a struct of it with `head` and how many are queued would ask to write it.
 #![tactic(auto)]
 
 ghost use Rattle.std.specs.Prelude.{◌≡◌, ◌+◌, ◌<◌, ◌≤◌, length, replicate};

@@ -185,39 +185,11 @@ impl Host {
     ) -> Result<String, AllocError> {
         let mut text = format!(in alloc; "{}", words::refusal(reply.answer))?;
         if let Ok(accepted) = reply.answer {
-            self.delivered(&mut text, call, accepted, reply)?;
+            delivered(&mut text, call, accepted, reply)?;
             self.notices(&mut text, accepted)?;
         }
         self.readiness(&mut text, size)?;
         Ok(text)
-    }
-
-    fn delivered(
-        &self,
-        text: &mut String,
-        call: &Call,
-        accepted: Accepted,
-        reply: &Reply,
-    ) -> Result<(), AllocError> {
-        if accepted.value != 0 {
-            if call.opens() {
-                write!(text, " value {}", Dotted(accepted.value))?;
-            } else {
-                write!(text, " value {}", accepted.value)?;
-            }
-        }
-        let data = first(&reply.data, accepted.value);
-        if !data.is_empty() {
-            write!(text, " data {}", Delivered(data))?;
-        }
-        let items = first(&reply.items, accepted.items);
-        if !items.is_empty() {
-            write!(text, " items {}", Runs(items))?;
-        }
-        if accepted.flags != 0 {
-            write!(text, " flags {}", accepted.flags)?;
-        }
-        Ok(())
     }
 
     fn notices(&self, text: &mut String, accepted: Accepted) -> Result<(), AllocError> {
@@ -247,18 +219,42 @@ impl Host {
                 size.capacity,
                 *held,
             );
-            write!(text, " {}:{}", Dotted(held.0), Letters(shown(answer)))?;
+            write!(text, " {}:", Dotted(held.0))?;
+            match answer {
+                Ok(accepted) => write!(text, "{}", Letters(accepted.value))?,
+                // A number that is no readiness.
+                Err(no) => write!(text, "{}", u64::from(no.number()) + 100)?,
+            }
         }
         Ok(())
     }
 }
 
-// A refusal shows as a number that is no readiness.
-fn shown(readiness: Result<Accepted, Errno>) -> u64 {
-    match readiness {
-        Ok(accepted) => accepted.value,
-        Err(no) => u64::from(no.number()) + 100,
+fn delivered(
+    text: &mut String,
+    call: &Call,
+    accepted: Accepted,
+    reply: &Reply,
+) -> Result<(), AllocError> {
+    if accepted.value != 0 {
+        if call.opens() {
+            write!(text, " value {}", Dotted(accepted.value))?;
+        } else {
+            write!(text, " value {}", accepted.value)?;
+        }
     }
+    let data = first(&reply.data, accepted.value);
+    if !data.is_empty() {
+        write!(text, " data {}", Delivered(data))?;
+    }
+    let items = first(&reply.items, accepted.items);
+    if !items.is_empty() {
+        write!(text, " items {}", Runs(items))?;
+    }
+    if accepted.flags != 0 {
+        write!(text, " flags {}", accepted.flags)?;
+    }
+    Ok(())
 }
 
 // The first `count`, or all where there are fewer.

@@ -12,7 +12,7 @@ mod run_on;
 #[cfg(test)]
 mod tests;
 
-use player::{Player, Stop};
+use player::{Player, Stop, compared};
 use std::alloc::{AllocError, Global};
 use std::io;
 use std::io::Read;
@@ -20,6 +20,7 @@ use std::io::Read;
 // One byte more than a script may have.
 const TOO_MANY_BYTES: u64 = 1_048_576;
 
+// Stays: a closure is no plainer than `aloud`, which is one line of difference.
 /// Runs the script that stands on standard input. Its comments are printed where `aloud`, and at the
 /// end the totals.
 pub fn replay(rt: &(impl Input + Print + AllocGlobal), aloud: bool) -> io::Result<()> {
@@ -46,9 +47,7 @@ fn read<R: Read + Drop>(alloc: Global, reader: R) -> io::Result<Option<Vec<u8>>>
 
 fn play(rt: &impl Print, alloc: Global, script: &[u8], aloud: bool) -> io::Result<()> {
     let mut player = Player::new(alloc)?;
-    let mut number: u64 = 0;
-    for line in script.split(|byte| *byte == b'\n') {
-        number = number.saturating_add(1);
+    for (k, line) in script.split(|byte| *byte == b'\n').enumerate() {
         if line.starts_with(b"#") {
             if aloud {
                 rt.write_all(line)?;
@@ -57,13 +56,13 @@ fn play(rt: &impl Print, alloc: Global, script: &[u8], aloud: bool) -> io::Resul
             continue;
         }
         if let Err(stop) = player.play(line) {
-            return stopped(rt, number, line, stop);
+            return stopped(rt, k.saturating_add(1), line, stop);
         }
     }
     println!(rt; "{player}")
 }
 
-fn stopped(rt: &impl Print, number: u64, line: &[u8], stop: Stop<'_>) -> io::Result<()> {
+fn stopped(rt: &impl Print, number: usize, line: &[u8], stop: Stop<'_>) -> io::Result<()> {
     match stop {
         Stop::OutOfMemory => Err(AllocError.into()),
         Stop::Unreadable => {
@@ -75,7 +74,7 @@ fn stopped(rt: &impl Print, number: u64, line: &[u8], stop: Stop<'_>) -> io::Res
             print!(rt; "line {number}: {call}\n  stored: ")?;
             rt.write_all(stored)?;
             print!(rt; "\n  here:   ")?;
-            rt.write_all(here.as_bytes())?;
+            rt.write_all(compared(&here))?;
             println!(rt)
         }
     }

@@ -7,7 +7,7 @@ use std::fmt;
 use wording::line::Words;
 use wording::text::LineError;
 
-// An answer is compared as far as this.
+// An answer is compared, and shown where it differs, as far as this.
 const MOST_TEXT: usize = 65_600;
 
 // A table's slots and their capacity are up to this, and so is the place of a word.
@@ -177,7 +177,7 @@ fn more_after<'a>(line: &'a [u8], call: &str) -> &'a [u8] {
 }
 
 // The text as far as it is compared.
-fn compared(text: &str) -> &[u8] {
+pub fn compared(text: &str) -> &[u8] {
     let bytes = text.as_bytes();
     bytes.get(..MOST_TEXT).unwrap_or(bytes)
 }

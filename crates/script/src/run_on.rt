@@ -1,6 +1,6 @@
 // A call that its `=` follows with no space between: its last word, without its last byte, has to be
 // an argument, but is taken as it stands, up to the next space.
-// Stays: what may not change, since the programs do what they did on every input.
+// Stays: what may not change, since the programs do what they did on every input (`tests::runs_on`); `hex::decode` refuses what is 0 here.
 ghost use Rattle.std.specs.Prelude.{◌<◌, ◌≤◌, IfOk, IfSome};
 ghost use Rattle.script.specs.Limits.{IsWithinLimits};
 

@@ -1,5 +1,5 @@
 // What ends a run, and how much is read.
-use crate::player::{Player, Stop};
+use crate::player::{Player, Stop, compared};
 use std::io;
 use std::io::Read;
 use std::test::Fail;
@@ -60,6 +60,18 @@ fn stops_at_another_answer(rt: HostRuntime) -> Result<(), Fail> {
         }
         _ => return Err("it agrees".into()),
     }
+    Ok(())
+}
+
+#[test]
+fn shows_as_far_as_it_compares(rt: HostRuntime) -> Result<(), Fail> {
+    let mut text = String::new(rt.alloc());
+    for _ in 0..6_561 {
+        text.push_str("0123456789")?;
+    }
+    assert_eq!(rt; text.len(), 65_610);
+    assert_eq!(rt; compared(&text).len(), 65_600);
+    assert_eq!(rt; compared("0 16"), b"0 16".as_slice());
     Ok(())
 }
 

@@ -18,7 +18,7 @@ use Rattle.words.specs.declared.Errno.{Errno}
 use Rattle.abi.specs.Shutdown.{how_of}
 use Rattle.abi.specs.declared.ShutdownHow.{ShutdownHow}
 use Rattle.inbox.specs.View as inbox
-use Rattle.inbox.specs.View.{count}
+use Rattle.inbox.specs.Well.{AllFit}
 use Rattle.inbox.specs.declared.Inbox.{Inbox}
 use Rattle.inbox.specs.declared.Discarded.{Discarded}
 use Rattle.rules.specs.Table as model
@@ -293,13 +293,13 @@ module _ {n c : ℕ} {w b t : List ℕ} {u v : ℕ} (a : Admitted n c (lent w b 
           at_hand : Held n c (lent w b t) h i k
           at_hand = held n c (lent w b t) h i k (known a) ei lv.opened (sym (ap (λ (q : Slot). q.state) es) ∙ ek)
 
-          pub drop_asked : ((256 * i + 256 ≤ length t) × (c ≤ 65536) × (256 ≤ v)) × ((k.inbox.head < c) × (count k.inbox ≤ c) × (k.inbox.first < 256) × (k.inbox.items ≤ 256))
+          pub drop_asked : ((256 * i + 256 ≤ length t) × (c ≤ 65536) × (256 ≤ v)) × AllFit c k.inbox
           drop_asked =
               let z = at_hand.within in
               let x = a.tokens in
               let y = a.release_list in
               let g = at_hand.range in
-              ((omega arith, a.small, omega arith), (g.head_in, g.fits, g.first_in, g.items-in))
+              ((omega arith, a.small, omega arith), (g.head_in, g.fits, (g.first_in, g.items-in)))
 
           module _ (f : Bool) (ef : f ≡ open_in n w k.peer.0) where
             gone : is_open (view n c (lent w b t)) k.peer.0 ≡ f

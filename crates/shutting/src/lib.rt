@@ -1,9 +1,9 @@
 // shutdown, on a table that has been admitted.
-// Stays: the lent lists are parameters of their own, since each call writes some and only reads others, as C's pointers say: a struct of all would ask to write every one.
+// Stays: what may not change. A call writes some of the lent lists and only reads others (`.now` in its clauses): a struct of all five would ask to write every one.
 #![tactic(auto)]
 
 ghost use Rattle.std.specs.Prelude.{◌≡◌, true, ◌+◌, ◌*◌, ◌≤◌, ◌<◌, length};
-ghost use Rattle.inbox.specs.View.{count};
+ghost use Rattle.inbox.specs.Well.{AllFit};
 ghost use Rattle.rules.specs.Outcome.{Call};
 ghost use Rattle.rules.specs.Table.{slot_of};
 ghost use Rattle.storage.specs.Layout.{part, tokens_base, HasSlot};
@@ -136,6 +136,7 @@ fn end_peer(words: &mut [u64], p: Handle, ends: Ends)
     storage::store(words, j, Slot { state, ..slot });
 }
 
+// Stays: no plainer without `read`, since `Drops` speaks of both cases at once.
 // "Read drops inbox bytes, releases its items"
 #[tactic(auto, unfolding(crate::specs::Parts::left_of, crate::specs::Parts::dropped_of))]
 fn drop_queued(
@@ -147,7 +148,7 @@ fn drop_queued(
     read: bool,
 ) -> Discarded
     requires roomy { (256 * i + 256 ≤ length tokens.now) × (c ≤ 65536) × (256 ≤ length releases.old) }
-    requires inbox_in { (inbox.head < c) × (count inbox ≤ c) × (inbox.first < 256) × (inbox.items ≤ 256) }
+    requires inbox_in { AllFit c inbox }
     ensures { Drops c (part (tokens_base i) 256 tokens.now) releases.old releases.new read inbox result }
 {
     if !read {

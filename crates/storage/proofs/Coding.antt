@@ -29,9 +29,6 @@ module _ (k : Cell) where
   unfolding state_of
   says_listening e = rw e
 
-  pub says_listener : (l : Listener) → k.tag ≡ 3 → l ≡ listener_of k → Listening l ≡ state_of k
-  says_listener l e z = ap Listening z ∙ says_listening e
-
   pub says_connected : (r : Connection) → k.tag ≡ 4 → r ≡ connection_of k → Connected r ≡ state_of k
   unfolding state_of
   says_connected r e z = ap Connected z ∙ rw e

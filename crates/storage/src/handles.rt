@@ -5,7 +5,7 @@ ghost use Rattle.storage.specs.Layout.{HasSlots};
 ghost use Rattle.storage.specs.Cells.{cell_at};
 ghost use Rattle.storage.specs.Finding.{occupied, waiting, open_in, live_in, free_cell, lowest};
 
-use crate::{Cell, Slot, State};
+use crate::{Cell, LAST_GENERATION, Slot, State};
 use words::Handle;
 
 pub fn slot_of(h: Handle) -> usize
@@ -63,7 +63,7 @@ pub fn is_live(words: &[u64], n: usize, h: Handle) -> bool
 fn is_free(cell: Cell) -> bool
     ensures { result ≡ free_cell cell }
 {
-    !is_occupied(cell.into()) && cell.generation < 4294967295
+    !is_occupied(cell.into()) && cell.generation < LAST_GENERATION
 }
 
 // The lowest slot for a new socket.

@@ -1,7 +1,6 @@
 // The inbox of a slot: its three rings, lent as parts.
 ghost use Rattle.std.specs.Prelude.{◌≡◌, ◌+◌, ◌*◌, ◌≤◌, ◌<◌, length};
-ghost use Rattle.inbox.specs.View.{count};
-ghost use Rattle.inbox.specs.Well.{is_well, Well};
+ghost use Rattle.inbox.specs.Well.{is_well, Well, AllFit};
 ghost use Rattle.inbox.specs.Promise.{MayPush, policy_of, Takes, Discards};
 ghost use Rattle.storage.specs.Layout.{part, places_base, ring_base, tokens_base, HasRows};
 ghost use Rattle.storage.specs.Rows.{lent, Roomy};
@@ -85,7 +84,7 @@ pub fn discard(
     releases: &mut [u32],
     at: usize,
 ) -> Discarded
-    requires roomy { (256 * i + 256 ≤ length tokens.now) × (c ≤ 65536) × (inbox.head < c) × (count inbox ≤ c) × (inbox.first < 256) × (inbox.items ≤ 256) }
+    requires roomy { (256 * i + 256 ≤ length tokens.now) × (c ≤ 65536) × AllFit c inbox }
     requires releases_room { at + inbox.items ≤ length releases.old }
     ensures { Discards c (part (tokens_base i) 256 tokens.now) releases.old releases.new at inbox result }
 {

@@ -1,4 +1,6 @@
 // The storage that the host lends, and a slot of it as a value. docs/STORAGE.md has the picture.
+// Stays: the lent lists, N and C are parameters of their own, since a function writes one and only reads another: a struct of all would ask to write every one.
+// Stays: what may not change. A slot's index and C are numbers, whose ranges are clauses: a type that holds the range would ask more of callers.
 #![tactic(auto)]
 
 pub mod handles;
@@ -24,7 +26,22 @@ pub struct Sizes {
     pub releases: usize,
 }
 
+// The tags of slots, as they stand in the words.
+pub const CLOSED: u64 = 0;
+
+pub const UNBOUND: u64 = 1;
+
+pub const BOUND: u64 = 2;
+
+pub const LISTENING: u64 = 3;
+
+pub const CONNECTED: u64 = 4;
+
+// The last generation of a slot.
+pub const LAST_GENERATION: u64 = 4294967295;
+
 // A slot's sixteen words.
+// Stays: what may not change. The tag and the flags are words as they lie there, damaged ones too; `State` is what they mean.
 #[derive(Clone, Copy, Debug, Default, PartialEq, Eq)]
 pub struct Cell {
     pub generation: u64,
@@ -57,6 +74,7 @@ pub struct Listener {
 
 // A connected socket. A pending server waits in the queue of slot `waits - 1`, at `place` of that
 // ring; for a socket that has been given out both are 0.
+// Stays: what may not change: `connection_of` and `cell_of` have `waits` and `place` as words.
 #[derive(Clone, Copy)]
 pub struct Connection {
     pub peer: Handle,
@@ -160,7 +178,7 @@ pub fn load_cell(words: &[u64], i: usize) -> Cell
     }
 }
 
-// Stays: a store for each word. Tried, slower: `copy_from_slice` of an array of the words takes 15 ns, this 6.
+// Stays: a store for each word. `copy_from_slice` of an array of them is no plainer, since all sixteen stand in it too; it takes 15 ns, this 6.
 #[tactic(auto, unfolding(crate::specs::Cells::store_at))]
 fn store_cell(words: &mut [u64], i: usize, cell: Cell)
     requires { HasSlot i words.old }
@@ -195,10 +213,10 @@ impl From<Cell> for State {
     #[tactic(auto, unfolding(crate::specs::Cells::state_of))]
     fn from(cell: Cell) -> State {
         match cell.tag {
-            1 => State::Unbound,
-            2 => State::Bound(cell.name as usize),
-            3 => State::Listening(cell.into()),
-            4 => State::Connected(cell.into()),
+            UNBOUND => State::Unbound,
+            BOUND => State::Bound(cell.name as usize),
+            LISTENING => State::Listening(cell.into()),
+            CONNECTED => State::Connected(cell.into()),
             _ => State::Closed,
         }
     }
@@ -266,14 +284,17 @@ impl From<Slot> for Cell {
         let closed = closed(slot.generation);
         match slot.state {
             State::Closed => closed,
-            State::Unbound => Cell { tag: 1, ..closed },
+            State::Unbound => Cell {
+                tag: UNBOUND,
+                ..closed
+            },
             State::Bound(name) => Cell {
-                tag: 2,
+                tag: BOUND,
                 name: name as u64,
                 ..closed
             },
             State::Listening(listener) => Cell {
-                tag: 3,
+                tag: LISTENING,
                 name: listener.name as u64,
                 backlog: listener.backlog,
                 head: listener.head as u64,
@@ -281,7 +302,7 @@ impl From<Slot> for Cell {
                 ..closed
             },
             State::Connected(connection) => Cell {
-                tag: 4,
+                tag: CONNECTED,
                 peer: connection.peer.0,
                 inbox_closed: connection.inbox_closed as u64,
                 outbox_closed: connection.outbox_closed as u64,

@@ -53,6 +53,7 @@ pub fn recvmsg_capacity(flags: i32, controllen: u64) -> Result<u64, Errno>
     Ok(scm_rights_capacity(controllen))
 }
 
+// Stays: the C interface: the list is lent, and how many of it are written is answered.
 // Bytes after the first header's data are ignored.
 pub fn parse_scm_rights(control: &[u8], fds: &mut [i32]) -> Result<u64, Errno>
     ensures { Parsed control.now fds.old fds.new result }
@@ -100,6 +101,7 @@ pub fn encode_scm_rights(fds: &[i32], control: &mut [u8]) -> Result<u64, Errno>
     Ok(space.min(room))
 }
 
+// Stays: no plainer as a conversion: the three places are `header_at`'s and `header_bytes`'.
 #[tactic(auto, unfolding(crate::specs::Control::header_at))]
 fn read_header(control: &[u8]) -> CmsgHdr
     requires { 16 ≤ length control.now }

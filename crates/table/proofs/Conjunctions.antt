@@ -6,7 +6,7 @@ use native.Mathlib.Nat.{not-suc-le-zero}
 use native.Mathlib.Decide.{dec_lt}
 use native.Mathlib.Omega.{arith}
 use lib.ListN.{length}
-use borrow.Author.Tests.{not-true, not-false}
+use borrow.Author.Tests.{not-false}
 use Rattle.std.proofs.Common.{zero-add}
 use Rattle.std.specs.Bool.{MatchBool}
 use Rattle.std.specs.List.{range_with_len, AllWithin, HoldsAt}
@@ -19,9 +19,6 @@ nope true f = absurd (f refl)
 nope false f = refl
 
 module _ (a b : Bool) where
-  pub first_of_two : (p : Bool) → p ≡ a → not p ≡ true → false ≡ a && b
-  first_of_two p e t = rw (sym e ∙ not-true p t)
-
   pub last_of_two : (p r : Bool) → p ≡ a → not p ≡ false → r ≡ b → r ≡ a && b
   last_of_two p r e t z = rw (sym e ∙ not-false p t) z
 

@@ -6,9 +6,9 @@ ghost use Rattle.storage.specs.declared.State.TheVariants.{Connected};
 ghost use Rattle.table.specs.Formed.{no_name, no_queue, tied_state};
 ghost use Rattle.table.specs.OnePass.{flags_well, place_well, state_checks, slot_checks, Skips};
 
-use crate::{CONNECTED, LAST_GENERATION, Table};
+use crate::Table;
 use inbox::Inbox;
-use storage::inboxes;
+use storage::{CONNECTED, LAST_GENERATION, inboxes};
 use words::Handle;
 
 impl Table<'_> {
@@ -93,6 +93,7 @@ impl Table<'_> {
 
     // The first slot from `from` on that is not connected, or is not well; or `n`. A loop of its
     // own: most open slots are connected.
+    // Stays: an Option is no plainer, since `n` is where the pass ends.
     pub(crate) fn skip_well(&self, from: usize) -> usize
         requires { from ≤ self.now.n }
         ensures { Skips self.now.n self.now.c self.now.words.now from result }

@@ -3,8 +3,7 @@ ghost use Rattle.std.specs.Prelude.{◌≡◌, ◌≢◌, ◌&&◌, leb, ltb};
 ghost use Rattle.table.specs.Formed.{no_name, no_queue, no_pair, fields_well};
 ghost use Rattle.table.specs.OnePass.{generation_well};
 
-use crate::{BOUND, CLOSED, LAST_GENERATION, LISTENING, UNBOUND};
-use storage::{Cell, Listener, handles};
+use storage::{BOUND, CLOSED, Cell, LAST_GENERATION, LISTENING, Listener, UNBOUND, handles};
 
 #[tactic(auto, unfolding(crate::specs::Formed::no_name))]
 fn no_name(cell: Cell) -> bool

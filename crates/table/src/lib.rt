@@ -1,4 +1,6 @@
 // The table in the lent storage: is it well-formed, and may a call go on?
+// Stays: `i < self.n` stands in each question about a slot. A type for the index is no plainer, since it would hold the same beside the table.
+// Stays: what comes from outside the check (making, sizes, admission) has the lent lists as the calls have them, for the C interface.
 #![tactic(auto)]
 
 mod connected;
@@ -19,22 +21,8 @@ ghost use Rattle.table.specs.Formed.{header_well};
 ghost use Rattle.table.specs.OnePass.{name_checks, state_checks, slot_checks, ClosedRun};
 ghost use Rattle.table.specs.Admission.{admits};
 
-use storage::{Listener, State};
+use storage::{CLOSED, CONNECTED, LAST_GENERATION, Listener, State};
 use words::Errno;
-
-// The tags of slots, as they stand in the words.
-pub(crate) const CLOSED: u64 = 0;
-
-pub(crate) const UNBOUND: u64 = 1;
-
-pub(crate) const BOUND: u64 = 2;
-
-pub(crate) const LISTENING: u64 = 3;
-
-pub(crate) const CONNECTED: u64 = 4;
-
-// The last generation of a slot.
-pub(crate) const LAST_GENERATION: u64 = 4294967295;
 
 // What is lent for a table of `n` slots of capacity `c`, long enough.
 #[derive(Clone, Copy)]
@@ -144,6 +132,7 @@ impl Table<'_> {
     }
 
     // The first slot from `from` on that is not closed, or whose generation is too large; or `n`.
+    // Stays: an Option is no plainer, since `n` is where the pass ends.
     fn skip_closed(&self, from: usize) -> usize
         requires { from ≤ self.now.n }
         ensures { ClosedRun self.now.words.now self.now.n from result }

@@ -3,7 +3,8 @@ ghost use Rattle.std.specs.Prelude.{◌≡◌, ◌||◌, ◌<◌, eqb, ltb};
 ghost use Rattle.storage.specs.Cells.{cell_at, state_of};
 ghost use Rattle.table.specs.OnePass.{points_back, peer_checks};
 
-use crate::{CLOSED, CONNECTED, Table};
+use crate::Table;
+use storage::{CLOSED, CONNECTED};
 use words::Handle;
 
 // No socket is in a slot of this tag.

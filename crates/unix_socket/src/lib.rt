@@ -1,7 +1,7 @@
 // The twelve calls, over kernel/unix_socket/src/lib.rs, and the making of a table. Each may be called
 // with anything: what is lent is asked first, and then the call goes on in the crates below.
 //
-// Stays: the lent lists are parameters of their own, since each call writes some and only reads others, as C's pointers say: a struct of all would ask to write every one.
+// Stays: what may not change. A call writes some of the lent lists and only reads others (`.now` in its clauses): a struct of all five would ask to write every one.
 #![tactic(auto, using(crate::proofs::Entered::enters))]
 
 ghost use Rattle.std.specs.Prelude.{◌≡◌, [], length};
@@ -19,6 +19,7 @@ use words::{Errno, Handle};
 // ── The table ──
 
 // For C: 01's number, and the least sizes of what is lent where it is 0.
+// Stays: the C interface, a struct by value: its number, and the rest 0 where that is not 0.
 #[repr(C)]
 #[derive(Clone, Copy, Default)]
 pub struct Least {

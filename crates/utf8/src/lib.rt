@@ -19,7 +19,7 @@ pub fn is_utf8(s: &[u8]) -> bool
 }
 
 // What follows the character whose first octet is `first`, or none where there is no character.
-// One arm for each row of the RFC's syntax behind the first row, which most octets are in.
+// Octets below 80 answer first, since most are; then there is one arm for each further row of the RFC's syntax.
 fn after_char(first: u8, rest: &[u8]) -> Option<&[u8]>
     ensures { After [] (first ∷ rest.now) result }
 {

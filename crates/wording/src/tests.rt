@@ -80,3 +80,15 @@ fn reads_words(rt: HostRuntime) {
     assert_eq!(rt; words.up_to(10), Ok(10));
     assert_eq!(rt; words.end(), Ok(()));
 }
+
+#[test]
+fn reads_a_word_of_bytes(rt: HostRuntime) -> Result<(), Fail> {
+    let mut words = Words::new("2f61 2f6 -");
+    let path = words.bytes(rt.alloc()).ok().ok_or("no path")?;
+    assert_eq!(rt; path.as_slice(), b"/a".as_slice());
+    assert!(rt; words.bytes(rt.alloc()).is_err());
+    let nothing = words.bytes(rt.alloc()).ok().ok_or("no bytes")?;
+    assert!(rt; nothing.is_empty());
+    assert_eq!(rt; words.end(), Ok(()));
+    Ok(())
+}

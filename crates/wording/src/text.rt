@@ -41,6 +41,7 @@ where
     if word.starts_with('+') {
         return Err(LineError::Unreadable);
     }
+    // Stays: tried, `word.parse().or(..)`: the proof of `value` did not close.
     match word.parse() {
         Ok(value) => Ok(value),
         Err(_) => Err(LineError::Unreadable),
@@ -62,6 +63,7 @@ pub fn bytes(alloc: Global, word: &str) -> Result<Vec<u8>, LineError>
     if word.is_empty() || word.len() > MOST_DIGITS || word.bytes().any(|b| b.is_ascii_uppercase()) {
         return Err(LineError::Unreadable);
     }
+    // Stays: the one place that has a `FromHexError`; a `From` is no plainer.
     match hex::decode(alloc, word) {
         Ok(bytes) => Ok(bytes),
         Err(FromHexError::OutOfMemory) => Err(LineError::OutOfMemory),

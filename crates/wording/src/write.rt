@@ -38,6 +38,14 @@ impl fmt::Display for Delivered<'_> {
     }
 }
 
+// Before each of a list but the first.
+fn comma_before<W: fmt::Write>(k: usize, f: &mut fmt::Formatter<W>) -> fmt::Result {
+    if k > 0 {
+        f.write_str(",")?;
+    }
+    Ok(())
+}
+
 /// A list of numbers; of a run that goes up by one only the ends are written, `first-last`.
 #[derive(Clone, Copy)]
 pub struct Runs<'a>(pub &'a [u32]);
@@ -46,9 +54,7 @@ impl fmt::Display for Runs<'_> {
     fn fmt<W: fmt::Write>(&self, f: &mut fmt::Formatter<W>) -> fmt::Result {
         let runs = self.0.chunk_by(|a, b| a.checked_add(1) == Some(*b));
         for (k, run) in runs.enumerate() {
-            if k > 0 {
-                write!(f, ",")?;
-            }
+            comma_before(k, f)?;
             match run {
                 [] => {}
                 [only] => write!(f, "{only}")?,
@@ -59,6 +65,7 @@ impl fmt::Display for Runs<'_> {
     }
 }
 
+// Stays: the C interface, whose list of wakes is numbers.
 /// Whom a call woke: handles, and 0 for the registry.
 #[derive(Clone, Copy)]
 pub struct Wakes<'a>(pub &'a [u64]);
@@ -66,9 +73,7 @@ pub struct Wakes<'a>(pub &'a [u64]);
 impl fmt::Display for Wakes<'_> {
     fn fmt<W: fmt::Write>(&self, f: &mut fmt::Formatter<W>) -> fmt::Result {
         for (k, handle) in self.0.iter().enumerate() {
-            if k > 0 {
-                write!(f, ",")?;
-            }
+            comma_before(k, f)?;
             match *handle {
                 0 => write!(f, "registry")?,
                 handle => write!(f, "{}", Dotted(handle))?,

@@ -43,6 +43,7 @@ pub struct Item(pub u32);
 pub struct Descriptor(pub i32);
 
 impl Errno {
+    // Stays: what may not change, since docs/TRACE.md names it.
     pub fn number(self) -> u32
         ensures { result ≡ number_of self }
     {
@@ -51,6 +52,7 @@ impl Errno {
 }
 
 impl Descriptor {
+    // Stays: what may not change, since docs/TRACE.md names it.
     // The one place where a descriptor becomes a plain number.
     pub fn number(self) -> i32
         ensures { result ≡ self.0 }
@@ -60,6 +62,7 @@ impl Descriptor {
 }
 
 // 01's number of an answer. "An accepted call without a value answers 0."
+// Stays: the C interface, where an answer is a number, 0 for none; so is `value`.
 pub fn refusal<T: Copy>(answer: Result<T, Errno>) -> u32
     ensures { result ≡ refusal_of answer }
 {
