@@ -11,7 +11,7 @@ use Rattle.std.proofs.lemmas.Slice.{put_mid-paste}
 use borrow.Author.Tests.{lt-leb}
 use Rattle.ring.specs.Ring.{place_of, queued, whole}
 use Rattle.ring.proofs.Queued.{by_order, queued-length, queued-take, queued-drop, queued_at}
-use Rattle.ring.proofs.Copying.{place_low, place_high, place_is}
+use Rattle.ring.proofs.Copying.{place_is}
 use Rattle.laws.proofs.Tests.{less_or}
 use Rattle.rules.specs.Inbox.{group, moved}
 use Rattle.rules.specs.Moving.{handed, released, flags_of}
@@ -33,15 +33,6 @@ positive (suc n) ne = omega arith
 
 some : (r c n : ℕ) → r ≡ c - n → n ≤ c → (r ≡ 0 → ⊥) → n < c
 some r c n e h ne = let z = positive r ne in omega arith
-
--- ── The rings of the items ──
-
-pub place_mod : (k : ℕ) → k < 512 → (k % 256 ≡ place_of 256 k) × (k % 256 < 256)
-place_mod k h = go (less_or k 256)
-  where
-    go : (k < 256) ⊎ (256 ≤ k) → (k % 256 ≡ place_of 256 k) × (k % 256 < 256)
-    go (inl l) = let e : k % 256 ≡ k = omega arith in (e ∙ (place_low 256 k l).0, omega arith)
-    go (inr g) = let e : k % 256 ≡ k - 256 = omega arith in (e ∙ (place_high 256 k g (omega arith)).0, omega arith)
 
 -- ── The lists ──
 

@@ -5,7 +5,7 @@
 #![tactic(auto)]
 
 ghost use Rattle.std.specs.Prelude.{◌≡◌, ◌+◌, ◌-◌, ◌<◌, ◌≤◌, length, drop, slice_index};
-ghost use Rattle.ring.specs.Ring.{place_of, queued};
+ghost use Rattle.ring.specs.Ring.{queued};
 ghost use Rattle.words.specs.Numbers.{refusal_of};
 ghost use Rattle.inbox.specs.View.{dist, count, distances, front, nearest};
 ghost use Rattle.inbox.specs.Well.{rises, is_well, Well, ItemsFit, AllFit};
@@ -198,7 +198,8 @@ impl Inbox {
         ensures { Hands (queued tokens.now self.first g) m items.old items.new releases.old releases.new }
     {
         ring::read(tokens, self.first, &mut items[..m]);
-        ring::read(tokens, place(self.first + m), &mut releases[..g - m]);
+        let behind = ring::place(256, self.first + m);
+        ring::read(tokens, behind, &mut releases[..g - m]);
     }
 
     // The numbers when the first `k` bytes and the first `g` items are gone.
@@ -211,7 +212,7 @@ impl Inbox {
         Inbox {
             head: ring::place(c, self.head + k),
             read_total: self.read_total.wrapping_add(k as u64),
-            first: place(self.first + g),
+            first: ring::place(256, self.first + g),
             items: self.items - g,
             ..self
         }
@@ -268,7 +269,7 @@ impl Entries<'_> {
         ensures { result ≡ slice_index (distances self.now.inbox self.now.places.now) i }
     {
         distance(
-            self.places[place(self.inbox.first + i)],
+            self.places[ring::place(256, self.inbox.first + i)],
             self.inbox.read_total,
         )
     }
@@ -309,15 +310,6 @@ impl Entries<'_> {
         }
         true
     }
-}
-
-// The place of entry `k` in the rings of the items: `ring::place` for 256, in one operation.
-// Stays: tried, `ring::place(256, k)` misses the bar of 1 ns for each item that the check looks at.
-fn place(k: usize) -> usize
-    requires { k < 512 }
-    ensures { (result ≡ place_of 256 k) × (result < 256) }
-{
-    k % 256
 }
 
 // How far the stream offset `from` lies before `to`.
