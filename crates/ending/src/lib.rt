@@ -142,6 +142,8 @@ fn end_listener(
     Ok(Accepted::releasing(done.wakes, done.releases))
 }
 
+// Not inlined: what it keeps on the stack then does not lie above the check's.
+#[inline(never)]
 pub fn close_admitted(
     words: &mut [u64],
     bytes: &[u8],

@@ -11,7 +11,7 @@ use Rattle.std.proofs.lemmas.Slice.{put_mid-paste}
 use borrow.Author.Tests.{lt-leb}
 use Rattle.ring.specs.Ring.{place_of, queued, whole}
 use Rattle.ring.proofs.Queued.{by_order, queued-length, queued-take, queued-drop, queued_at}
-use Rattle.ring.proofs.Copying.{place_is}
+use Rattle.ring.proofs.Copying.{place_low, place_high, place_is}
 use Rattle.laws.proofs.Tests.{less_or}
 use Rattle.rules.specs.Inbox.{group, moved}
 use Rattle.rules.specs.Moving.{handed, released, flags_of}
@@ -34,7 +34,21 @@ positive (suc n) ne = omega arith
 some : (r c n : ℕ) → r ≡ c - n → n ≤ c → (r ≡ 0 → ⊥) → n < c
 some r c n e h ne = let z = positive r ne in omega arith
 
+-- ── The rings of the items ──
+
+pub place_mod : (k : ℕ) → k < 512 → (k % 256 ≡ place_of 256 k) × (k % 256 < 256)
+place_mod k h = go (less_or k 256)
+  where
+    go : (k < 256) ⊎ (256 ≤ k) → (k % 256 ≡ place_of 256 k) × (k % 256 < 256)
+    go (inl l) = let e : k % 256 ≡ k = omega arith in (e ∙ (place_low 256 k l).0, omega arith)
+    go (inr g) = let e : k % 256 ≡ k - 256 = omega arith in (e ∙ (place_high 256 k g (omega arith)).0, omega arith)
+
 -- ── The lists ──
+
+-- all of a list, stored from a place on
+pub pasted_all : (l xs : List ℕ) (at k : ℕ) → length xs ≡ k → at + k ≤ length l → paste l at xs k ≡ sets l at xs
+pasted_all l xs at k e h =
+    ap (λ (x : ℕ). paste l at xs x) (sym e) ∙ ap (λ (x : List ℕ). take at l ++ x ++ drop (at + length xs) l) (take-length xs) ∙ sym (sets-eq xs l at (omega arith))
 
 -- a part of a list, all written over by what is queued in a ring
 read_to : (r l x : List ℕ) (h at k m : ℕ) → h < length r → k ≤ length r → at + k ≤ length l → m ≡ k → x ≡ queued r h (length (take m (drop at l))) → put_mid at m l x ≡ sets l at (queued r h k)
@@ -43,8 +57,7 @@ read_to r l x h at k m hh hk hl em ex =
     let lx : length xs ≡ k = queued-length r h hh k hk in
     let n : length (take m (drop at l)) ≡ k = length-take-le m (drop at l) (simp length-drop (omega arith)) ∙ em in
     put_mid-paste at m l x xs (length xs) (ex ∙ ap (queued r h) n) (omega arith) refl
-    ∙ ap (λ (y : List ℕ). take at l ++ y ++ drop (at + length xs) l) (take-length xs)
-    ∙ sym (sets-eq xs l at (omega arith))
+    ∙ pasted_all l xs at (length xs) refl (omega arith)
 
 pub handed_over : (tokens items x releases y : List ℕ) (first g m p : ℕ) → length tokens ≡ 256 → first < 256 → m ≤ g → g ≤ 256 → m ≤ length items → 256 ≤ length releases
     → x ≡ queued tokens first (length (take m items)) → p ≡ place_of 256 (first + m) → p < 256 → y ≡ queued tokens p (length (take (g - m) releases))
@@ -108,6 +121,18 @@ module _ (q : Inbox) (places : List ℕ) (i : ℕ) (l : length places ≡ 256) (
     pub beyond : (low n : ℕ) → low ≤ d → n ≤ d → false ≡ rises low n (drop i (distances q places))
     unfolding rises
     beyond low n a b = sym (ap (rises low n) left_at ∙ rw (le-leb low d a, le-ltb d n b))
+
+    -- one test for both ends: how far d lies behind low, which is far where d is the less
+    module _ (low n left : ℕ) (el : low + left ≡ n) (hn : n < 2 ^ 64) (hd : d < 2 ^ 64) where
+      pub rises_inside : (d + (2 ^ 64 - low)) % 2 ^ 64 < left → rises low n (drop i (distances q places)) ≡ rises d n (drop (i + 1) (distances q places))
+      rises_inside h = rises_on low n (omega arith) (omega arith)
+
+      pub rises_outside : left ≤ (d + (2 ^ 64 - low)) % 2 ^ 64 → false ≡ rises low n (drop i (distances q places))
+      rises_outside h = go (less_or d low)
+        where
+          go : (d < low) ⊎ (low ≤ d) → false ≡ rises low n (drop i (distances q places))
+          go (inl a) = falls low n a
+          go (inr a) = beyond low n a (omega arith)
 
   -- none is left
   module _ (h : q.items ≤ i) where

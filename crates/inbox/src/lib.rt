@@ -5,7 +5,7 @@
 #![tactic(auto)]
 
 ghost use Rattle.std.specs.Prelude.{◌≡◌, ◌+◌, ◌-◌, ◌<◌, ◌≤◌, length, drop, slice_index};
-ghost use Rattle.ring.specs.Ring.{queued};
+ghost use Rattle.ring.specs.Ring.{place_of, queued};
 ghost use Rattle.words.specs.Numbers.{refusal_of};
 ghost use Rattle.inbox.specs.View.{dist, count, distances, front, nearest};
 ghost use Rattle.inbox.specs.Well.{rises, is_well, Well, ItemsFit, AllFit};
@@ -269,7 +269,7 @@ impl Entries<'_> {
         ensures { result ≡ slice_index (distances self.now.inbox self.now.places.now) i }
     {
         distance(
-            self.places[ring::place(256, self.inbox.first + i)],
+            self.places[place(self.inbox.first + i)],
             self.inbox.read_total,
         )
     }
@@ -301,15 +301,28 @@ impl Entries<'_> {
     {
         let n = self.inbox.queued();
         let mut low = 0;
+        let mut left = n;
         for i in 0..self.inbox.items {
             let d = self.distance(i);
-            if d < low || n <= d {
+            // one test for both ends: below `low` it wraps
+            let further = d.wrapping_sub(low);
+            if left <= further {
                 return false;
             }
             low = d;
+            left -= further;
         }
         true
     }
+}
+
+// The place of entry `k` in the rings of the items: `ring::place` for 256, in one operation.
+// Stays: tried, `ring::place(256, k)` misses the bar of 1 ns for each item that the check looks at.
+fn place(k: usize) -> usize
+    requires { k < 512 }
+    ensures { (result ≡ place_of 256 k) × (result < 256) }
+{
+    k % 256
 }
 
 // How far the stream offset `from` lies before `to`.

@@ -1,5 +1,6 @@
 -- Several numbers tested as one: `a | b` is 0 where both are, and below a power of two where both are.
 use mathlib.Core.Path.{◌≡◌, refl, sym, ap, subst, ◌∙◌}
+use mathlib.Core.Logic.{◌≢◌}
 use mathlib.Core.Bool.{Bool, true, false, ◌&&◌}
 use Prim.Native.Nat.{ℕ, ◌+◌, ◌^◌, ◌≤◌, ◌<◌}
 use native.Mathlib.Omega.{arith}
@@ -17,6 +18,9 @@ module _ (a b : ℕ) where
 
   pub or-zero : bit_or a b ≡ 0 → (a ≡ 0) × (b ≡ 0)
   or-zero e = let l = or_least in (omega (arith, l.0), omega (arith, l.1))
+
+  pub or_other : bit_or a b ≢ 0 → a ≡ 0 → b ≢ 0
+  or_other ne e z = ne (ap (λ (x : ℕ). bit_or x b) e ∙ or_zero_l b ∙ z)
 
   pub or-eqb : eqb (bit_or a b) 0 ≡ eqb a 0 && eqb b 0
   or-eqb = go (eqb a 0) refl

@@ -5,11 +5,14 @@ use Prim.Native.Nat.{ℕ, zero, suc, ◌+◌, ◌-◌, ◌*◌, ◌/◌, ◌%◌
 use native.Mathlib.Omega.{arith}
 use native.Mathlib.Nat.{pow-suc, pow-succ', mul_assoc, mul_comm, suc-add, zero-add, add-zero, add-suc, div-div-eq-div-mul}
 use native.Mathlib.Numerals.{add-one}
+use lib.Arith.{mod-mul}
+use lib.Dec.{lit<}
 use lib.IntN.{ℤ}
 use lib.ListN.{length, get_or, take, drop, set, length-set}
 use lib.Seq.{sets, sets-eq, drop-cons, drop-drop, get_or-append-add, get_or-take, get_or-drop, get_or-set_same, get_or-set_other}
 use mir.Syntax.{w32}
-use mir.Val.{to_z, of_z, SFits}
+use lib.Signed.{mag}
+use mir.Val.{to_z, of_z, SFits, hbits}
 use mir.ValLaws.{to_z-of_z, of_z_fits}
 use Rattle.std.specs.Int.{sum_through, byte_worth, byte_at, bytes_low_first}
 use Rattle.std.proofs.Common.{append_assoc}
@@ -27,6 +30,14 @@ le_split (suc j) k l p =
     let more : 256 ^ suc j * le k l (p + 1 + j) ≡ 256 * (256 ^ j * le k l (p + 1 + j)) = rw pow-succ' (mul_assoc 256 (256 ^ j) (le k l (p + 1 + j))) in
     rw (suc-add, le_split j k l (p + 1), e, more) (omega arith)
 
+-- and so are its bytes
+pub bytes_split : (j k v : ℕ) → bytes (j + k) v ≡ bytes j v ++ bytes k (v / 256 ^ j)
+unfolding bytes
+bytes_split zero k v = let e : v / 1 ≡ v = omega arith in rw (zero-add k, e)
+bytes_split (suc j) k v =
+    let e : v / 256 / 256 ^ j ≡ v / 256 ^ suc j = rw pow-succ' (div-div-eq-div-mul v 256 (256 ^ j)) in
+    rw (suc-add, bytes_split j k (v / 256), e)
+
 pub length-bytes : (k v : ℕ) → length (bytes k v) ≡ k
 unfolding bytes
 length-bytes zero v = refl
@@ -36,6 +47,26 @@ length-bytes (suc k) v = ap suc (length-bytes k (v / 256))
 pub sets-append : (xs ys l : List ℕ) (p : ℕ) → sets l p (xs ++ ys) ≡ sets (sets l p xs) (p + length xs) ys
 sets-append [] ys l p = rw add-zero
 sets-append (x ∷ xs) ys l p = rw (add-suc, ← suc-add, sets-append xs ys (set l p x) (suc p))
+
+positive : (k : ℕ) → 0 < 256 ^ k
+positive zero = omega arith
+positive (suc k) = let h = positive k in rw pow-succ' (omega arith)
+
+-- the low bytes do not see what lies above them
+bytes_low : (k v : ℕ) → bytes k (v % 256 ^ k) ≡ bytes k v
+unfolding bytes
+bytes_low zero v = refl
+bytes_low (suc k) v =
+    let e : v % 256 ^ suc k ≡ v / 256 % 256 ^ k * 256 + v % 256 = rw pow-suc (mod-mul v (positive k) (lit< tt)) in
+    let low : v % 256 ^ suc k % 256 ≡ v % 256 = omega arith in
+    let high : v % 256 ^ suc k / 256 ≡ v / 256 % 256 ^ k = omega arith in
+    rw (low, high, bytes_low k (v / 256))
+
+-- a number is stored by its two halves
+pub halves : (j k v : ℕ) (l : List ℕ) (p : ℕ) → sets (sets l p (bytes j (v % 256 ^ j))) (p + j) (bytes k (v / 256 ^ j)) ≡ sets l p (bytes (j + k) v)
+halves j k v l p =
+    let e : p + j ≡ p + length (bytes j v) = ap (λ (n : ℕ). p + n) (sym (length-bytes j v)) in
+    rw (bytes_low j v, e, bytes_split j k v) (sym (sets-append (bytes j v) (bytes k (v / 256 ^ j)) l p))
 
 -- ── What is stored is read back ──
 
@@ -152,6 +183,16 @@ low_bytes (suc k) i n = ap₂ (λ (x : ℕ) (xs : List ℕ). x ∷ xs) (low i) (
 
 pub to_le_bytes-is : (k n : ℕ) → bytes_low_first 0 k n ≡ bytes k n
 to_le_bytes-is k n = low_bytes k 0 n ∙ ap (bytes k) (omega arith)
+
+-- what the library reads and stores, as these
+pub reads : (k : ℕ) (xs : List ℕ) (r : ℕ) → r ≡ sum_through (λ i. byte_worth i (slice_index xs i)) k → r ≡ le (suc k) xs 0
+reads k xs r e = e ∙ from_le_bytes-is k xs
+
+pub reads_signed : (xs : List ℕ) (z : ℤ) → mag z < 2 ^ hbits w32 → z ≡ to_z w32 (sum_through (λ i. byte_worth i (slice_index xs i)) 3) → to_z w32 (of_z w32 z) ≡ to_z w32 (le 4 xs 0)
+reads_signed xs z f e = to_z-of_z w32 z (record { sfits = f }) ∙ e ∙ ap (to_z w32) (from_le_bytes-is 3 xs)
+
+pub stores : (k n : ℕ) (r : List ℕ) → r ≡ bytes_low_first 0 k n → r ≡ bytes k n
+stores k n r e = e ∙ to_le_bytes-is k n
 
 -- ── A part of a list, read and written whole ──
 

@@ -46,10 +46,12 @@ impl LittleEndian<2> for u16 {
 
     ghost bits = { λ n. n };
 
+    #[tactic(auto, using(crate::proofs::Widths::reads))]
     fn from_bytes(stored: &[u8; 2]) -> u16 {
         u16::from_le_bytes(*stored)
     }
 
+    #[tactic(auto, using(crate::proofs::Widths::stores))]
     fn to_bytes(self) -> [u8; 2] {
         u16::to_le_bytes(self)
     }
@@ -62,10 +64,12 @@ impl LittleEndian<4> for u32 {
 
     ghost bits = { λ n. n };
 
+    #[tactic(auto, using(crate::proofs::Widths::reads))]
     fn from_bytes(stored: &[u8; 4]) -> u32 {
         u32::from_le_bytes(*stored)
     }
 
+    #[tactic(auto, using(crate::proofs::Widths::stores))]
     fn to_bytes(self) -> [u8; 4] {
         u32::to_le_bytes(self)
     }
@@ -78,10 +82,12 @@ impl LittleEndian<8> for u64 {
 
     ghost bits = { λ n. n };
 
+    #[tactic(auto, using(crate::proofs::Widths::reads))]
     fn from_bytes(stored: &[u8; 8]) -> u64 {
         u64::from_le_bytes(*stored)
     }
 
+    #[tactic(auto, using(crate::proofs::Widths::stores))]
     fn to_bytes(self) -> [u8; 8] {
         u64::to_le_bytes(self)
     }
@@ -94,6 +100,7 @@ impl LittleEndian<4> for i32 {
 
     ghost bits = { of_z w32 };
 
+    #[tactic(auto, using(crate::proofs::Widths::reads_signed))]
     fn from_bytes(stored: &[u8; 4]) -> i32 {
         i32::from_le_bytes(*stored)
     }

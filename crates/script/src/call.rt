@@ -1,5 +1,5 @@
 // The table calls of a script, each with its arguments.
-ghost use Rattle.std.specs.Prelude.{◌≤◌, IfOk};
+ghost use Rattle.std.specs.Prelude.{◌≤◌, vec_len, IfOk};
 ghost use Rattle.script.specs.Limits.{IsWithinLimits};
 
 use std::alloc::{AllocError, Global};
@@ -32,8 +32,13 @@ impl Data {
     }
 
     pub fn bytes(self, alloc: Global) -> Result<Vec<u8>, AllocError> {
-        let before = usize::from(self.seed % 251);
-        (0..251).cycle().skip(before).take(self.len).collect(alloc)
+        let mut byte = self.seed % 251;
+        let mut data = vec![in alloc; 0; self.len]?;
+        for place in data.iter_mut() {
+            *place = byte;
+            byte = if byte < 250 { byte + 1 } else { 0 };
+        }
+        Ok(data)
     }
 }
 
@@ -111,6 +116,15 @@ fn handle(words: &mut Words<'_>) -> Result<Handle, LineError> {
     Ok(Handle(dotted.0))
 }
 
+// A name, which is lent as far as any call's bytes.
+fn lent_name(alloc: Global, words: &mut Words<'_>) -> Result<Vec<u8>, LineError>
+    ensures { IfOk result (λ name. vec_len name ≤ 65600) }
+{
+    let mut name = words.bytes(alloc)?;
+    name.truncate(MOST_BYTES);
+    Ok(name)
+}
+
 impl Call {
     // The call of that name with the arguments that follow.
     pub fn read(alloc: Global, name: &str, words: &mut Words<'_>) -> Result<Call, LineError>
@@ -124,7 +138,7 @@ impl Call {
             },
             "bind" => Call::Bind {
                 handle: handle(words)?,
-                name: words.bytes(alloc)?,
+                name: lent_name(alloc, words)?,
             },
             "listen" => Call::Listen {
                 handle: handle(words)?,
@@ -133,7 +147,7 @@ impl Call {
             "accept" => Call::Accept(handle(words)?),
             "connect" => Call::Connect {
                 handle: handle(words)?,
-                name: words.bytes(alloc)?,
+                name: lent_name(alloc, words)?,
             },
             "read" => Call::Read {
                 handle: handle(words)?,

@@ -51,7 +51,7 @@ fn play(rt: &impl Print, alloc: Global, script: &[u8], aloud: bool) -> io::Resul
         if line.starts_with(b"#") {
             if aloud {
                 rt.write_all(line)?;
-                println!(rt)?;
+                rt.write_all(b"\n")?;
             }
             continue;
         }

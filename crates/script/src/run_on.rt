@@ -1,7 +1,7 @@
 // A call that its `=` follows with no space between: its last word, without its last byte, has to be
 // an argument, but is taken as it stands, up to the next space.
 // Stays: what may not change, since the programs do what they did on every input (`tests::runs_on`); `hex::decode` refuses what is 0 here.
-ghost use Rattle.std.specs.Prelude.{◌<◌, ◌≤◌, IfOk, IfSome};
+ghost use Rattle.std.specs.Prelude.{◌<◌, ◌≤◌, vec_len, IfOk, IfSome};
 ghost use Rattle.script.specs.Limits.{IsWithinLimits};
 
 use crate::call::{Call, Data, Items, MOST_BYTES, MOST_ITEMS};
@@ -44,7 +44,9 @@ fn digit(byte: u8) -> Option<u8>
 }
 
 // The name with what follows it, a byte for each pair; one that is no two digits is 0.
-fn with_pairs(mut name: Vec<u8>, digits: &[u8]) -> Result<Vec<u8>, AllocError> {
+fn with_pairs(mut name: Vec<u8>, digits: &[u8]) -> Result<Vec<u8>, AllocError>
+    ensures { IfOk result (λ name. vec_len name ≤ 65600) }
+{
     for pair in digits.chunks_exact(2) {
         let byte = match (digit(pair[0]), digit(pair[1])) {
             (Some(high), Some(low)) => high * 16 + low,
@@ -57,7 +59,9 @@ fn with_pairs(mut name: Vec<u8>, digits: &[u8]) -> Result<Vec<u8>, AllocError> {
 }
 
 // The same after the last word, where `-` is one half of a pair.
-fn with_name(mut name: Vec<u8>, word: &str, more: &[u8]) -> Result<Vec<u8>, AllocError> {
+fn with_name(mut name: Vec<u8>, word: &str, more: &[u8]) -> Result<Vec<u8>, AllocError>
+    ensures { IfOk result (λ name. vec_len name ≤ 65600) }
+{
     if word != "-" {
         return with_pairs(name, more);
     }

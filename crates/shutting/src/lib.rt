@@ -20,6 +20,8 @@ use promise::Accepted;
 use storage::{Connection, Slot, State, handles, inboxes};
 use words::{Errno, Handle};
 
+// Not inlined: what it keeps on the stack then does not lie above the check's.
+#[inline(never)]
 pub fn shutdown_admitted(
     words: &mut [u64],
     bytes: &[u8],

@@ -6,7 +6,7 @@ ghost use Rattle.storage.specs.declared.State.TheVariants.{Connected};
 ghost use Rattle.table.specs.Formed.{no_name, no_queue, tied_state};
 ghost use Rattle.table.specs.OnePass.{flags_well, place_well, state_checks, slot_checks, Skips};
 
-use crate::Table;
+use crate::{Table, pairs};
 use inbox::Inbox;
 use storage::{CONNECTED, LAST_GENERATION, inboxes};
 use words::Handle;
@@ -69,8 +69,13 @@ impl Table<'_> {
     {
         let b = 8 + 16 * i;
         let me = storage::handles::handle(generation, i);
-        self.peer_checks(me, Handle(self.words[b + 6]), self.words[b + 8] != 0)
-            && inboxes::is_well(self.words, self.n, self.c, i, self.inbox_at(i))
+        pairs::peer_checks(
+            self.words,
+            self.n,
+            me,
+            Handle(self.words[b + 6]),
+            self.words[b + 8] != 0,
+        ) && inboxes::is_well(self.words, self.n, self.c, i, self.inbox_at(i))
             && self.place_checks(i, me)
     }
 
@@ -94,7 +99,7 @@ impl Table<'_> {
     // The first slot from `from` on that is not connected, or is not well; or `n`. A loop of its
     // own: most open slots are connected.
     // Stays: an Option is no plainer, since `n` is where the pass ends.
-    pub(crate) fn skip_well(&self, from: usize) -> usize
+    pub fn skip_well(&self, from: usize) -> usize
         requires { from ≤ self.now.n }
         ensures { Skips self.now.n self.now.c self.now.words.now from result }
     {

@@ -30,7 +30,7 @@ fn no_pair(cell: Cell) -> bool
 
 // "a field that a state does not have 0", of a slot that is not connected.
 #[tactic(auto, unfolding(crate::specs::Formed::fields_well))]
-pub(crate) fn fields_well(cell: Cell) -> bool
+pub fn fields_well(cell: Cell) -> bool
     requires { cell.tag ≢ 4 }
     ensures { result ≡ fields_well cell }
 {
@@ -45,7 +45,7 @@ pub(crate) fn fields_well(cell: Cell) -> bool
 
 // At most 4,294,967,295; an occupied slot's is 1 or more.
 #[tactic(auto, unfolding(crate::specs::OnePass::generation_well))]
-pub(crate) fn generation_well(cell: Cell) -> bool
+pub fn generation_well(cell: Cell) -> bool
     ensures { result ≡ generation_well cell }
 {
     cell.generation <= LAST_GENERATION
@@ -53,7 +53,7 @@ pub(crate) fn generation_well(cell: Cell) -> bool
 }
 
 // The numbers of a listening socket.
-pub(crate) fn listener_ranges(n: usize, listener: Listener) -> bool
+pub fn listener_ranges(n: usize, listener: Listener) -> bool
     ensures { result ≡ leb listener.name 255 && ltb listener.backlog 4294967296 && ltb listener.head n && leb listener.pending n }
 {
     listener.name <= 255

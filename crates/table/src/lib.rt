@@ -3,11 +3,11 @@
 // Stays: what comes from outside the check (making, sizes, admission) has the lent lists as the calls have them, for the C interface.
 #![tactic(auto)]
 
-mod connected;
-mod fields;
+pub mod connected;
+pub mod fields;
 pub mod make;
-mod pairs;
-mod pending;
+pub mod pairs;
+pub mod pending;
 pub mod sizes;
 
 ghost use Rattle.std.specs.Prelude.{◌≡◌, ◌≢◌, false, ◌&&◌, ◌+◌, ◌*◌, ◌≤◌, ◌<◌, length, get_or, eqb};
@@ -24,14 +24,14 @@ ghost use Rattle.table.specs.Admission.{admits};
 use storage::{CLOSED, CONNECTED, LAST_GENERATION, Listener, State};
 use words::Errno;
 
-// What is lent for a table of `n` slots of capacity `c`, long enough.
+// The words that are lent for a table of `n` slots of capacity `c`, long enough. The names lie in other
+// bytes: what looks at names is lent these too.
 #[derive(Clone, Copy)]
-pub(crate) struct Table<'a> {
-    words: &'a [u64],
-    bytes: &'a [u8],
-    n: usize,
-    c: usize,
-    ghost roomy: { (n ≤ 1024) × HasRows n words.now × HasNames n c bytes.now },
+pub struct Table<'a> {
+    pub words: &'a [u64],
+    pub n: usize,
+    pub c: usize,
+    ghost roomy: { (n ≤ 1024) × HasRows n words.now },
 }
 
 // The six words after N and C.
@@ -56,42 +56,42 @@ impl Table<'_> {
     // over connected slots then keeps its numbers in registers.
     #[tactic(auto, unfolding(crate::specs::OnePass::name_checks))]
     #[inline(never)]
-    fn name_checks(&self, i: usize, m: usize) -> bool
-        requires { i < self.now.n }
-        ensures { result ≡ name_checks self.now.n self.now.c self.now.words.now self.now.bytes.now i m }
+    fn name_checks(&self, bytes: &[u8], i: usize, m: usize) -> bool
+        requires { (i < self.now.n) × HasNames self.now.n self.now.c bytes.now }
+        ensures { result ≡ name_checks self.now.n self.now.c self.now.words.now bytes.now i m }
     {
         if !(1..=255).contains(&m) {
             return false;
         }
         let a = self.c * self.n + 255 * i;
-        let name = &self.bytes[a..a + m];
-        storage::names::find(self.words, self.bytes, self.n, self.c, i, name).is_none()
+        let name = &bytes[a..a + m];
+        storage::names::find(self.words, bytes, self.n, self.c, i, name).is_none()
     }
 
     #[tactic(auto, unfolding(crate::specs::OnePass::state_checks, crate::specs::Formed::ranges_well))]
-    fn listening_checks(&self, i: usize, listener: Listener) -> bool
-        requires { i < self.now.n }
-        ensures { result ≡ state_checks self.now.n self.now.c self.now.words.now self.now.bytes.now i (Listening listener) }
+    fn listening_checks(&self, bytes: &[u8], i: usize, listener: Listener) -> bool
+        requires { (i < self.now.n) × HasNames self.now.n self.now.c bytes.now }
+        ensures { result ≡ state_checks self.now.n self.now.c self.now.words.now bytes.now i (Listening listener) }
     {
-        self.name_checks(i, listener.name)
+        self.name_checks(bytes, i, listener.name)
             && fields::listener_ranges(self.n, listener)
             && self.servers_well(i, listener)
     }
 
     // A slot that is not connected.
     #[tactic(auto, unfolding(crate::specs::OnePass::slot_checks, crate::specs::OnePass::state_checks, storage::specs::Cells::state_of))]
-    fn other_checks(&self, i: usize) -> bool
-        requires in_table { i < self.now.n }
+    fn other_checks(&self, bytes: &[u8], i: usize) -> bool
+        requires in_table { (i < self.now.n) × HasNames self.now.n self.now.c bytes.now }
         requires not_connected { (cell_at self.now.words.now i).tag ≢ 4 }
-        ensures { result ≡ slot_checks self.now.n self.now.c self.now.words.now self.now.bytes.now i }
+        ensures { result ≡ slot_checks self.now.n self.now.c self.now.words.now bytes.now i }
     {
         let cell = storage::load_cell(self.words, i);
         if !fields::generation_well(cell) || !fields::fields_well(cell) {
             return false;
         }
         match State::from(cell) {
-            State::Bound(name) => self.name_checks(i, name),
-            State::Listening(listener) => self.listening_checks(i, listener),
+            State::Bound(name) => self.name_checks(bytes, i, name),
+            State::Listening(listener) => self.listening_checks(bytes, i, listener),
             _ => true,
         }
     }
@@ -99,16 +99,16 @@ impl Table<'_> {
     // A slot that was not skipped: a connected one is not well. Of a closed slot no more than two
     // words are read.
     #[tactic(auto, using(crate::proofs::Pass::slot_closed), unfolding(storage::specs::Cells::cell_at))]
-    fn slot_checks(&self, i: usize) -> bool
-        requires in_table { i < self.now.n }
-        requires bad_if_connected { (cell_at self.now.words.now i).tag ≡ 4 → slot_checks self.now.n self.now.c self.now.words.now self.now.bytes.now i ≡ false }
-        ensures { result ≡ slot_checks self.now.n self.now.c self.now.words.now self.now.bytes.now i }
+    fn slot_checks(&self, bytes: &[u8], i: usize) -> bool
+        requires in_table { (i < self.now.n) × HasNames self.now.n self.now.c bytes.now }
+        requires bad_if_connected { (cell_at self.now.words.now i).tag ≡ 4 → slot_checks self.now.n self.now.c self.now.words.now bytes.now i ≡ false }
+        ensures { result ≡ slot_checks self.now.n self.now.c self.now.words.now bytes.now i }
     {
         let b = 8 + 16 * i;
         match self.words[b + 1] {
             CONNECTED => false,
             CLOSED => self.words[b + 0] <= LAST_GENERATION,
-            _ => self.other_checks(i),
+            _ => self.other_checks(bytes, i),
         }
     }
 
@@ -148,8 +148,9 @@ impl Table<'_> {
 
     // The whole check, one pass over the slots.
     // Stays: a `for` is no plainer, since each turn passes a run of slots.
-    fn is_well_formed(&self) -> bool
-        ensures { result ≡ header_well self.now.n self.now.c self.now.words.now && every self.now.n (slot_checks self.now.n self.now.c self.now.words.now self.now.bytes.now) }
+    fn is_well_formed(&self, bytes: &[u8]) -> bool
+        requires { HasNames self.now.n self.now.c bytes.now }
+        ensures { result ≡ header_well self.now.n self.now.c self.now.words.now && every self.now.n (slot_checks self.now.n self.now.c self.now.words.now bytes.now) }
     {
         if !self.header_well() {
             return false;
@@ -158,7 +159,7 @@ impl Table<'_> {
         while i < self.n {
             i = self.skip_well(i);
             if i < self.n {
-                if !self.slot_checks(i) {
+                if !self.slot_checks(bytes, i) {
                     return false;
                 }
                 i = self.skip_closed(i + 1);
@@ -174,7 +175,7 @@ pub fn well_formed(words: &[u64], bytes: &[u8], n: usize, c: usize) -> bool
     requires { (n ≤ 1024) × HasRows n words.now × HasNames n c bytes.now }
     ensures { result ≡ header_well n c words.now && every n (slot_checks n c words.now bytes.now) }
 {
-    Table { words, bytes, n, c }.is_well_formed()
+    Table { words, n, c }.is_well_formed(bytes)
 }
 
 // What every call asks first: "N or C out of range 2; 18; 19".

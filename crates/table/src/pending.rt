@@ -58,7 +58,7 @@ impl Table<'_> {
     }
 
     // Every entry of the queue of slot `i`.
-    pub(crate) fn servers_well(&self, i: usize, listener: Listener) -> bool
+    pub fn servers_well(&self, i: usize, listener: Listener) -> bool
         requires { (i < self.now.n) × (listener.head < self.now.n) × (listener.pending ≤ self.now.n) }
         ensures { result ≡ tied_state self.now.n self.now.words.now i (Listening listener) }
     {
@@ -81,7 +81,7 @@ impl Table<'_> {
 
     // The socket `me` in slot `i`, if it waits.
     #[tactic(auto, unfolding(crate::specs::Formed::tied_state))]
-    pub(crate) fn server_stands(&self, i: usize, me: Handle, server: Connection) -> bool
+    pub fn server_stands(&self, i: usize, me: Handle, server: Connection) -> bool
         requires { (i < self.now.n) × (me.0 ≡ handle (cell_at self.now.words.now i).generation i) }
         ensures { result ≡ tied_state self.now.n self.now.words.now i (Connected server) }
     {

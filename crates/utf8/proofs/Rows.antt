@@ -1,5 +1,5 @@
 -- Which row of the syntax a first octet is in: one law for each arm of `after_char`.
-use mathlib.Core.Path.{◌≡◌, refl, sym, ◌∙◌}
+use mathlib.Core.Path.{◌≡◌, refl, sym, ◌∙◌, ap}
 use mathlib.Core.Bool.{true, false}
 use mathlib.Core.List.{List, [], ◌∷◌}
 use mathlib.Core.Logic.{⊎_elim}
@@ -7,7 +7,8 @@ use denote.Ref.{Bor}
 use Rattle.std.specs.Prelude.{Option, Some, None}
 use Prim.Native.Nat.{ℕ, suc, ◌-◌, ◌<◌, ◌≤◌}
 use native.Mathlib.Omega.{arith}
-use lib.ListN.{length}
+use lib.ListN.{length, get_or, take, drop}
+use Rattle.std.proofs.lemmas.List.{take_all}
 use Rattle.laws.proofs.Tests.{less_or}
 use Rattle.utf8.specs.Syntax.{Range, octets, has, rows, starts, follow, passes, tail, is_utf8}
 use Rattle.utf8.specs.Steps.{Behind, After}
@@ -120,6 +121,12 @@ module _ (b : ℕ) (s : List ℕ) where
 pub whole : (s : List ℕ) → is_utf8 s ≡ passes [] s
 unfolding is_utf8
 whole s = refl
+
+-- two octets below 80 are passed over
+pub skips : (s : List ℕ) → 2 ≤ length s → get_or s 0 0 < 0x80 → get_or s 1 0 < 0x80 → passes [] s ≡ passes [] (take (length s - 2) (drop 2 s))
+skips [] some h k = absurd (omega arith)
+skips (a ∷ []) some h k = absurd (omega arith)
+skips (a ∷ b ∷ s) some h k = goes _ _ (ascii a h) ∙ goes _ _ (ascii b k) ∙ ap (passes []) (sym (take_all _ s (omega arith)))
 
 pub end : (s left : List ℕ) → length left < 1 → is_utf8 s ≡ passes [] left → true ≡ is_utf8 s
 unfolding passes

@@ -1,21 +1,18 @@
-use Rattle.std.proofs.Common.{◌≡◌, false, drop, rules}
+use Rattle.std.proofs.Common.{◌≡◌, ◌+◌, false, drop, arith, rules, ◌∙◌}
 use Rattle.inbox.specs.View.{distances}
 use Rattle.inbox.specs.Well.{rises}
-use Rattle.inbox.proofs.Parts.{rises_on, falls, beyond, rises_end}
+use Rattle.inbox.proofs.Parts.{rises_inside, rises_outside, rises_end}
 use Rattle.inbox.proofs.Entries.rise.Goals as goal
-use Rattle.inbox.proofs.Entries.rise.Goals.{then-d-low-via-then-d-low, then-d-low-via-else-d-low+then-n-d}
 
-pub returns-then-d-low : goal.returns-then-d-low
-returns-then-d-low c =
-    let no : false ≡ rises c.loop-i.low c.queued-n.result (drop c.loop-i.i (distances c.args.self.now.inbox c.args.self.now.places.now)) =
-    elim c.then-d-low.branch [
-      | then-d-low-via-then-d-low w ↦ search falls
-      | then-d-low-via-else-d-low+then-n-d w ↦ search beyond
-    ] in
+pub returns-then-left-further : goal.returns-then-left-further
+returns-then-left-further c =
+    let no : false ≡ rises c.loop-i.low c.queued-n.result (drop c.loop-i.i (distances c.args.self.now.inbox c.args.self.now.places.now)) = search (rises_outside, rules) in
     cc
 
 pub loop-i-preserved : goal.loop-i-preserved
-loop-i-preserved c = search (rises_on, rules)
+loop-i-preserved c =
+    let on : rises c.loop-i.low c.queued-n.result (drop c.loop-i.i (distances c.args.self.now.inbox c.args.self.now.places.now)) ≡ rises c.distance-d.result c.queued-n.result (drop (c.loop-i.i + 1) (distances c.args.self.now.inbox c.args.self.now.places.now)) = search (rises_inside, rules) in
+    (omega (arith, c.loop-i.invariant.0, c.if-left-further.false), c.loop-i.invariant.1 ∙ on)
 
 pub returns : goal.returns
 returns c = search (rises_end, rules)

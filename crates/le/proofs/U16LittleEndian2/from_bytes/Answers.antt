@@ -1,6 +1,0 @@
-use Rattle.std.proofs.Common.{◌∙◌}
-use Rattle.le.proofs.Widths.{from_le_bytes-is}
-use Rattle.le.proofs.U16LittleEndian2.from_bytes.Goals as goal
-
-pub returns : goal.returns
-returns c = c.from_le_bytes.ensures ∙ from_le_bytes-is 1 c.args.stored.now
