@@ -508,8 +508,9 @@ beside the original's `try_sendmsg` and `try_recvmsg`.
 ";
 
 const COPY: &str = "\
-The bytes move in straight runs, two at most, each by one call of `memmove`: what a call costs is the same for a run of any length, and \
-`memmove` is as fast as `memcpy` in some runs and slower in others, most likely where another thread shares the core.";
+The bytes move in straight runs, two at most, each a loop that copies byte by byte. The compiler does not call `memcpy` for such a loop: \
+it is not told that two slices never overlap, tests for that at run time and copies 32 bytes an iteration in a loop of its own. That is as \
+fast as `memcpy` in some runs and slower in others, most likely where another thread shares the core.";
 
 const UNKNOWN: &str = "No reason is known; the spread in the tables below says how noisy the run was.";
 

@@ -34,7 +34,7 @@ pub fn write<T: Copy>(ring: &mut [T], head: usize, n: usize, src: &[T])
     requires room { n + length src.now ≤ length ring.old }
     ensures { whole ring.new head ≡ paste (whole ring.old head) n src.now (length src.now) }
 {
-    // A copy of none would still be a call, and most pushes have no items.
+    // Most pushes have no items.
     if src.is_empty() {
         return;
     }
@@ -42,10 +42,10 @@ pub fn write<T: Copy>(ring: &mut [T], head: usize, n: usize, src: &[T])
     let room = ring.len() - p;
     let k = src.len();
     if k <= room {
-        ring[p..p + k].copy_from_slice(src);
+        copy_run(&mut ring[p..p + k], src);
     } else {
-        ring[p..].copy_from_slice(&src[..room]);
-        ring[..k - room].copy_from_slice(&src[room..]);
+        copy_run(&mut ring[p..], &src[..room]);
+        copy_run(&mut ring[..k - room], &src[room..]);
     }
 }
 
@@ -62,10 +62,10 @@ pub fn read<T: Copy>(ring: &[T], head: usize, buf: &mut [T])
     let room = ring.len() - head;
     let k = buf.len();
     if k <= room {
-        buf.copy_from_slice(&ring[head..head + k]);
+        copy_run(buf, &ring[head..head + k]);
     } else {
-        buf[..room].copy_from_slice(&ring[head..]);
-        buf[room..].copy_from_slice(&ring[..k - room]);
+        copy_run(&mut buf[..room], &ring[head..]);
+        copy_run(&mut buf[room..], &ring[..k - room]);
     }
 }
 
@@ -82,6 +82,17 @@ pub fn fill<T: Copy>(ring: &mut [T], head: usize, n: usize, v: T, k: usize)
     } else {
         fill_run(&mut ring[p..], v);
         fill_run(&mut ring[..k - room], v);
+    }
+}
+
+// All of one straight run is `src`.
+// Stays: a slice's `copy_from_slice` is a call of `memmove`, which an archive then needs from outside, and what is used after it is kept on the stack.
+fn copy_run<T: Copy>(run: &mut [T], src: &[T])
+    requires { length src.now ≡ length run.old }
+    ensures { run.new ≡ src.now }
+{
+    for j in 0..run.len() {
+        run[j] = src[j];
     }
 }
 

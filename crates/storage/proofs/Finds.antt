@@ -111,12 +111,12 @@ equal_is a b r e = e ∙ same_is a b (pointwise eqb a b) (bytes_decides a b)
 pub other_length : (a b : List ℕ) → (length a ≡ length b → ⊥) → false ≡ same a b
 other_length a b ne = apart a b (λ e. ne (ap length e))
 
--- the first and the last eight bytes, where there are so many
+-- the first eight and the last k bytes, where there are so many
 abbrev FirstOf : List ℕ → Option (Bor (List ℕ)) → Type 0
 FirstOf l o = MatchOption o (length l < 8) (λ y. IsFirstChunk l y.now 8)
 
-abbrev LastOf : List ℕ → Option (Bor (List ℕ)) → Type 0
-LastOf l o = MatchOption o (length l < 8) (λ y. (8 ≤ length l) × IsWholeChunk (drop (length l - 8) l) y.now 8)
+abbrev LastOf : ℕ → List ℕ → Option (Bor (List ℕ)) → Type 0
+LastOf k l o = MatchOption o (length l < k) (λ y. (k ≤ length l) × IsWholeChunk (drop (length l - k) l) y.now k)
 
 abbrev equal_chunks : Option (Bor (List ℕ)) → Option (Bor (List ℕ)) → Bool
 equal_chunks = option_eq (λ x y. pointwise eqb x.now y.now)
@@ -128,12 +128,12 @@ other_first a b (Some x) None r ea eb e f = let l = ea.enough in f ∙ other_len
 other_first a b (Some x) (Some y) r ea eb e f =
     f ∙ apart a b (λ z. false≢true (sym f ∙ e ∙ (bytes_decides x.now y.now).1 (ea.same ∙ ap (take 8) z ∙ sym eb.same)))
 
-pub other_last : (a b : List ℕ) (o p : Option (Bor (List ℕ))) (r : Bool) → LastOf a o → LastOf b p → r ≡ equal_chunks o p → r ≡ false → r ≡ same a b
-other_last a b None None r ea eb e f = absurd (false≢true (sym f ∙ e))
-other_last a b None (Some y) r ea eb e f = f ∙ other_length a b (λ z. omega arith)
-other_last a b (Some x) None r ea eb e f = f ∙ other_length a b (λ z. omega arith)
-other_last a b (Some x) (Some y) r ea eb e f =
-    f ∙ apart a b (λ z. false≢true (sym f ∙ e ∙ (bytes_decides x.now y.now).1 (ea.1.same ∙ ap (λ (l : List ℕ). drop (length l - 8) l) z ∙ sym eb.1.same)))
+pub other_last : (k : ℕ) (a b : List ℕ) (o p : Option (Bor (List ℕ))) (r : Bool) → LastOf k a o → LastOf k b p → r ≡ equal_chunks o p → r ≡ false → r ≡ same a b
+other_last k a b None None r ea eb e f = absurd (false≢true (sym f ∙ e))
+other_last k a b None (Some y) r ea eb e f = f ∙ other_length a b (λ z. omega arith)
+other_last k a b (Some x) None r ea eb e f = f ∙ other_length a b (λ z. omega arith)
+other_last k a b (Some x) (Some y) r ea eb e f =
+    f ∙ apart a b (λ z. false≢true (sym f ∙ e ∙ (bytes_decides x.now y.now).1 (ea.1.same ∙ ap (λ (l : List ℕ). drop (length l - k) l) z ∙ sym eb.1.same)))
 
 -- no name, of the five tags
 not_named : (k : Cell) → (k.tag ≡ 2 → ⊥) → (k.tag ≡ 3 → ⊥) → named (state_of k) ≡ false
@@ -174,3 +174,16 @@ unfolding cell_at
 holds_by_name w i b m o x a hb l h ex eo =
     let e : a + x - a ≡ min (get_or w (cell_base i + 2) 0) 255 = omega arith in
     by_name (cell_at w i) (part a 255 b) m o l h (eo ∙ ap (λ (y : List ℕ). same y m) (ap (λ (y : ℕ). part a y b) e ∙ sym (room_take a (get_or w (cell_base i + 2) 0) b hb)))
+
+-- another name is not the slot's
+pub holds_no_other : (w : List ℕ) (i : ℕ) (b m : List ℕ) (o : Bool) (x a : ℕ) → a + 255 ≤ length b → x ≡ min (get_or w (cell_base i + 2) 0) 255 → o ≡ same (part a (a + x - a) b) m → o ≡ false
+    → o ≡ holds_cell (cell_at w i) (part a 255 b) m
+holds_no_other w i b m o x a hb ex eo f = go (less_or (get_or w (cell_base i + 1) 0) 2) (less_or 3 (get_or w (cell_base i + 1) 0))
+  where
+    t : ℕ
+    t = get_or w (cell_base i + 1) 0
+
+    go : (t < 2) ⊎ (2 ≤ t) → (3 < t) ⊎ (t ≤ 3) → o ≡ holds_cell (cell_at w i) (part a 255 b) m
+    go (inl l) r = f ∙ low_tag w i (part a 255 b) m l
+    go (inr l) (inl h) = f ∙ high_tag w i (part a 255 b) m h
+    go (inr l) (inr h) = holds_by_name w i b m o x a hb l h ex eo

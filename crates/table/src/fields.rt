@@ -28,17 +28,20 @@ fn no_pair(cell: Cell) -> bool
     (queued | cell.waits | cell.place) == 0
 }
 
-// "a field that a state does not have 0", of a slot that is not connected.
+// "a field that a state does not have 0", of a slot that is not connected. The queue's and the pair's
+// are asked before the state, so that they are not kept on the stack for it.
 #[tactic(auto, unfolding(crate::specs::Formed::fields_well))]
 pub fn fields_well(cell: Cell) -> bool
     requires { cell.tag ≢ 4 }
     ensures { result ≡ fields_well cell }
 {
+    let no_queue = no_queue(cell);
+    let no_pair = no_pair(cell);
     match cell.tag {
         CLOSED => true,
-        UNBOUND => no_name(cell) && no_queue(cell) && no_pair(cell),
-        BOUND => no_queue(cell) && no_pair(cell),
-        LISTENING => no_pair(cell),
+        UNBOUND => no_name(cell) && no_queue && no_pair,
+        BOUND => no_queue && no_pair,
+        LISTENING => no_pair,
         _ => false,
     }
 }

@@ -52,10 +52,8 @@ impl Table<'_> {
         self.words[0] == self.n as u64 && self.words[1] == self.c as u64 && zeros(self.words)
     }
 
-    // The name of slot `i`: 1 to 255 bytes, and no slot before it has the same. Not inlined: the loop
-    // over connected slots then keeps its numbers in registers.
+    // The name of slot `i`: 1 to 255 bytes, and no slot before it has the same.
     #[tactic(auto, unfolding(crate::specs::OnePass::name_checks))]
-    #[inline(never)]
     fn name_checks(&self, bytes: &[u8], i: usize, m: usize) -> bool
         requires { (i < self.now.n) × HasNames self.now.n self.now.c bytes.now }
         ensures { result ≡ name_checks self.now.n self.now.c self.now.words.now bytes.now i m }
