@@ -86,6 +86,8 @@ pub extern "C" fn bench_take(
     take(numbers, ring, places, tokens, buf, policy, items, releases).into()
 }
 
+// Inlined, as in `Inbox::take`.
+#[inline(always)]
 fn take(
     numbers: &mut [u64],
     ring: &[u8],

@@ -157,8 +157,9 @@ impl Inbox {
 
     // Removes the group at the first queued byte, and moves bytes up to the next group. `policy`
     // says where the group goes: to `items` as far as that has room, the rest to `releases`; or all
-    // of it to `releases`.
+    // of it to `releases`. Inlined, since all that it is lent would be laid on the stack for a call.
     #[tactic(auto, using(crate::proofs::Shows::reach_le, crate::proofs::Parts::handed_few))]
+    #[inline(always)]
     pub fn take(
         self,
         ring: &[u8],
